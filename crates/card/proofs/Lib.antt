@@ -1,0 +1,4 @@
+pub mod Words
+pub mod Search
+pub mod Header
+pub mod Stores

@@ -1,0 +1,16 @@
+use borrow.Author.Tests.{lt-ltb, le-ltb}
+use Rattle.card.proofs.reader.out_of_range.Statement.{statement}
+use Rattle.card.proofs.reader.out_of_range.Tie as tie
+use Rattle.card.proofs.reader.out_of_range.Reads as reads
+use Rattle.card.proofs.reader.out_of_range.Lts as lts
+
+-- src/reader.rt:20:1
+returns : tie.Need-returns
+returns c = rw (lt-ltb _ _ (c .if1 .taken))
+
+-- src/reader.rt:20:1
+returns-2 : tie.Need-returns-2
+returns-2 c = rw (le-ltb _ _ (c .if1 .left))
+
+pub out-of-range-spec : {M : Type 1} → statement M
+out-of-range-spec = tie.close (tie.spec returns returns-2)

@@ -1,0 +1,38 @@
+-- `scan::judge` meets its contract: the verdict in each arm, as `check` gave it. Assumes nothing.
+use mir.Facts.{toZ-ofZ}
+use borrow.Author.Needs.{needs}
+use Rattle.card.proofs.scan.judge.Statement.{statement}
+use Rattle.card.proofs.scan.judge.Tie as tie
+use Rattle.card.proofs.scan.judge.Reads as reads
+use Rattle.card.proofs.scan.judge.Lts as lts
+use Rattle.instruction.proofs.check.Reads as check-reads
+
+-- src/scan.rt:20:11
+check-requires : tie.Need-check-requires
+check-requires c κs = search needs
+
+-- src/scan.rt:21:26
+enum-told : tie.Need-enum-told
+enum-told c = search needs
+
+-- src/scan.rt:22:31
+enum-told-2 : tie.Need-enum-told-2
+enum-told-2 c = search needs
+
+-- src/scan.rt:23:32
+enum-told-3 : tie.Need-enum-told-3
+enum-told-3 c = search needs
+
+returns : tie.Need-returns
+returns c = rw (← (rw (toZ-ofZ (c .before .before .before .fits .last)) at (c .before .before .check .ensures)), c .enum-told .given .1)
+
+returns-2 : tie.Need-returns-2
+returns-2 c = rw (← (rw (toZ-ofZ (c .before .before .before .fits .last)) at (c .before .before .check .ensures)), c .enum-told2 .given .1)
+
+returns-3 : tie.Need-returns-3
+returns-3 c = rw (← (rw (toZ-ofZ (c .before .before .before .fits .last)) at (c .before .before .check .ensures)), c .enum-told3 .given .1)
+
+pub judge-spec : {M : Type 1} → statement M
+judge-spec =
+    tie.close
+    (tie.spec check-requires enum-told enum-told-2 enum-told-3 returns returns-2 returns-3)

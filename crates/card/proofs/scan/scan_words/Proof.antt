@@ -1,0 +1,72 @@
+-- `scan::scan_words` meets its contract. The loop's invariant: from index i the search finds what the whole search finds. Assumes nothing.
+use Prim.Native.Nat.{_-_, _≤_}
+use mathlib.Core.Path.{_≡_, refl, sym, _∙_}
+use native.Mathlib.Omega.{arith}
+use lib.ListN.{length, drop}
+use mir.Syntax.{w32}
+use mir.Val.{toZ}
+use mir.Facts.{toZ-ofZ}
+use borrow.Author.Needs.{needs}
+use Rattle.card.specs.Code.{firstBad}
+use Rattle.card.proofs.Search.{ends, goes-on, stops}
+use Rattle.card.proofs.scan.scan_words.Statement.{statement}
+use Rattle.card.proofs.scan.scan_words.Tie as tie
+
+abbrev Inv-loop : tie.InvT-loop
+Inv-loop list last i₀ i = (i ≤ length list) × (firstBad (toZ w32 last) 0 list ≡ firstBad (toZ w32 last) i (drop i list))
+
+abbrev μ-loop : tie.MeasureT-loop
+μ-loop list last i₀ i = length list - i
+
+loop-holds : tie.Need-loop-holds Inv-loop μ-loop
+loop-holds c = (search needs, refl)
+
+mul-judge : tie.Need-mul-judge Inv-loop μ-loop
+mul-judge c = search needs
+
+shared-slice-read-judge : tie.Need-shared-slice-read-judge Inv-loop μ-loop
+shared-slice-read-judge c = search needs
+
+judge-requires : tie.Need-judge-requires Inv-loop μ-loop
+judge-requires c κs = search needs
+
+enum-told : tie.Need-enum-told Inv-loop μ-loop
+enum-told c = search needs
+
+returns : tie.Need-returns Inv-loop μ-loop
+returns c =
+    let told = c .enum-told .given .1 in
+    told ∙ sym (rw (toZ-ofZ (c .before .before .before .before .before .before .before .fits .last)) at (c .before .before .before .before .before .loop .inv .1 ∙ stops _ _ _ _ _ _ (c .before .before .before .before .loop-test .taken) refl (sym (c .before .before .judge .ensures) ∙ told)))
+
+enum-told-2 : tie.Need-enum-told-2 Inv-loop μ-loop
+enum-told-2 c = search needs
+
+add-i : tie.Need-add-i Inv-loop μ-loop
+add-i c = omega arith
+
+loop-less : tie.Need-loop-less Inv-loop μ-loop
+loop-less c = omega arith
+
+loop-again : tie.Need-loop-again Inv-loop μ-loop
+loop-again c = (omega arith, c .before .before .before .before .before .loop .inv .1 ∙ goes-on _ _ _ _ (c .before .before .before .before .loop-test .taken) refl (sym (c .before .before .judge .ensures) ∙ c .enum-told2 .given .1))
+
+returns-2 : tie.Need-returns-2 Inv-loop μ-loop
+returns-2 c = sym (rw (toZ-ofZ (c .before .before .before .fits .last)) at (c .before .loop .inv .1 ∙ ends _ _ _ (omega arith)))
+
+pub scan-words-spec : {M : Type 1} → statement M
+scan-words-spec =
+    tie.close
+    (tie.spec
+    Inv-loop
+    μ-loop
+    loop-holds
+    mul-judge
+    shared-slice-read-judge
+    judge-requires
+    enum-told
+    returns
+    enum-told-2
+    add-i
+    loop-less
+    loop-again
+    returns-2)
