@@ -1,22 +1,22 @@
 -- Laws of the header's tests: what holds of an image that passes them, and what acceptance says. Assumes nothing.
 use Prim.Native.Nat.{ℕ, _+_, _*_, _≤_, _<_}
-use mathlib.Core.Path.{_≡_, refl, sym, _∙_}
+use mathlib.Core.Path.{_≡_, refl, ap}
 use mathlib.Core.Bool.{Bool, true, false, cond, not, _||_}
 use mathlib.Core.List.{List}
 use native.Mathlib.Omega.{arith}
 use lib.Dec.{ltb, eqb}
 use lib.ListN.{length, drop}
-use borrow.Author.Tests.{ltb-false, eqb-true, not-false}
+use borrow.Author.Tests.{ltb-false, eqb-true, not-false, le-ltb, eq-eqb}
 use Rattle.instruction.specs.Bytes.{byteOf}
 use Rattle.card.specs.Code.{firstBad, wordsOf}
-use Rattle.card.specs.Image.{Headed, followingOf, cellsOf, countOf, versionOf, lengthWrong, versionWrong, outOfRange, sizesWrong, imageSize, headerSize, lastOf, placed, readCode, readOf}
+use Rattle.card.specs.Image.{Headed, cellsOf, codeOf, countOf, followingOf, versionOf, lengthWrong, versionWrong, outOfRange, sizesWrong, imageSize, headerSize, lastOf, placed, readCode, readOf}
 use Rattle.card.specs.declared.scan.Scan.{Scan}
 use Rattle.card.specs.declared.scan.Scan.the-variants.{Fine, Bad}
 use Rattle.card.specs.declared.reader.Reading.{Reading}
 use Rattle.card.specs.declared.reader.Reading.the-variants.{Accepted, Refused}
 
 -- both tests failed
-or-false : (a b : Bool) → (a || b) ≡ false → (a ≡ false) × (b ≡ false)
+pub or-false : (a b : Bool) → (a || b) ≡ false → (a ≡ false) × (b ≡ false)
 or-false true b e = absurd (let z : _≡_ {A = ℕ} 0 1 = cc in omega arith)
 or-false false b e = (refl, e)
 
@@ -106,3 +106,27 @@ accepts image cells e = first (lengthWrong image) refl e
     first : (b : Bool) → lengthWrong image ≡ b → cond b (Refused 1 0) (cond (versionWrong image) (Refused 2 4) (cond (sizesWrong image) (Refused 3 5) (readCode image))) ≡ Accepted cells → Accepts image cells
     first true l r = never r
     first false l r = second l (versionWrong image) refl r
+
+-- its code part
+pub code-part : (image : List ℕ) (cells : ℕ) → readOf image ≡ Accepted cells → codeOf image ≡ drop headerSize image
+unfolding codeOf
+code-part image cells e = rw e
+
+-- both tests fail
+pub neither : (a b : Bool) → a ≡ false → b ≡ false → (a || b) ≡ false
+neither a b p q = rw (p, q)
+
+pub not-out : (x : ℕ) → InRange x → outOfRange x ≡ false
+not-out x r = neither (ltb x 1) (ltb 4096 x) (le-ltb x 1 (r .some)) (le-ltb 4096 x (r .most))
+
+-- and such an image is accepted
+pub accepted : (image : List ℕ) (cells : ℕ) → Accepts image cells → readOf image ≡ Accepted cells
+unfolding readOf readCode
+accepted image cells a =
+    let l : lengthWrong image ≡ false =
+    neither (ltb (length image) 4) _ (le-ltb (length image) 4 (omega (arith, a .long .follows)))
+    (neither (not (eqb (4 + followingOf image) (length image))) _ (rw (eq-eqb _ _ (a .long .follows))) (le-ltb _ _ (a .long .least))) in
+    let s : sizesWrong image ≡ false =
+    neither (outOfRange (cellsOf image)) _ (not-out _ (a .sized .cells))
+    (neither (outOfRange (countOf image)) _ (not-out _ (a .sized .count)) (rw (eq-eqb _ _ (a .sized .exact)))) in
+    rw (l, eq-eqb _ _ (a .version), s, a .code) (ap Accepted (a .globals))

@@ -2,3 +2,6 @@ pub mod Words
 pub mod Search
 pub mod Header
 pub mod Stores
+pub mod Success
+pub mod RoundTrip
+pub mod Sessions

@@ -1,3 +1,5 @@
 pub mod Code
 pub mod Image
 pub mod Writing
+pub mod RoundTrip
+pub mod Sessions
