@@ -2,7 +2,7 @@
 use Prim.Native.Nat.{ℕ, _+_, _*_, _≤_}
 use mathlib.Core.Bool.{Bool, true, false, cond, not, _||_}
 use mathlib.Core.List.{List, []}
-use mathlib.Core.Path.{_≡_}
+use mathlib.Core.Path.{_≡_, refl}
 use denote.Ref.{RefT, now, ptr}
 use lib.Dec.{ltb, eqb}
 use lib.IntN.{ℤ, pos, _-ℤ_}
@@ -37,6 +37,10 @@ headerSize = 9
 -- the size of an image of n instructions: the 4 bytes of L and the "L = 5 + 4n" that follow
 abbrev pub imageSize : ℕ → ℕ
 imageSize n = headerSize + 4 * n
+
+-- "The longest image has 16,393 bytes"
+longest : imageSize 4096 ≡ 16393
+longest = refl
 
 -- number 1: "under 4 bytes, L wrong for the length, or L < 5"
 abbrev pub lengthWrong : List ℕ → Bool

@@ -126,14 +126,15 @@ pub fn check(w: u32, last: i32) -> Verdict
     ensures { λ r. ⌜ r ≡ checkOf last w ⌝ }
 {
     let op = opcode(w);
-    if LAST_OPCODE < op {
-        return Verdict::BadOpcode;
-    }
     let rule = rule_of(op);
     let k = operand(w);
-    if permits(rule, last, k) {
-        Verdict::Fine
-    } else {
-        Verdict::BadOperand
+    let over = LAST_OPCODE < op;
+    let fits = permits(rule, last, k);
+    if over {
+        return Verdict::BadOpcode;
     }
+    if !fits {
+        return Verdict::BadOperand;
+    }
+    Verdict::Fine
 }
