@@ -23,19 +23,15 @@ answered c =
     rw (← (c .before .before .rule-of .ensures), ← (c .before .operand .ensures))
     (rw (toZ-ofZ (c .before .before .before .before .fits .last), toZ-ofZ (sfits-of {w = w32} {z = c .before .operand .result} (c .before .operand .ok))) at (c .permits .ensures))
 
--- src/lib.rt:128:9
 opcode-requires : tie.Need-opcode-requires
 opcode-requires c κs = search needs
 
--- src/lib.rt:129:9
 rule-of-requires : tie.Need-rule-of-requires
 rule-of-requires c κs = search needs
 
--- src/lib.rt:130:9
 operand-requires : tie.Need-operand-requires
 operand-requires c κs = search needs
 
--- src/lib.rt:132:9
 permits-requires : tie.Need-permits-requires
 permits-requires c κs = search needs
 

@@ -11,8 +11,6 @@ use Rattle.instruction.specs.Rules.{ruleOf}
 use Rattle.instruction.specs.declared.Rule.the-variants.{Zero}
 use Rattle.instruction.proofs.rule_of.Statement.{statement}
 use Rattle.instruction.proofs.rule_of.Tie as tie
-use Rattle.instruction.proofs.rule_of.Reads as reads
-use Rattle.instruction.proofs.rule_of.Lts as lts
 
 -- a number is one of two neighbours, or neither
 is-pair : (op k : ℕ) → k ≤ op → op < k + 2 → (eqb op k || eqb op (k + 1)) ≡ true

@@ -1,7 +1,9 @@
+-- `card::reader::code_part` meets its contract. Assumes nothing.
 use Prim.Native.Nat.{ℕ, _≤_}
 use mathlib.Core.Path.{_≡_, refl, sym, _∙_}
 use mathlib.Core.List.{List}
 use native.Mathlib.Omega.{arith}
+use borrow.Author.Needs.{needs}
 use denote.Ref.{now}
 use lib.ListN.{length}
 use Rattle.card.specs.Image.{codeOf, readOf}
@@ -9,12 +11,8 @@ use Rattle.card.specs.declared.reader.Reading.{Reading}
 use Rattle.card.specs.declared.reader.Reading.the-variants.{Accepted}
 use Rattle.card.proofs.Header.{accepts}
 use Rattle.card.proofs.Words.{rest}
-use borrow.Author.Needs.{needs}
 use Rattle.card.proofs.reader.code_part.Statement.{statement}
 use Rattle.card.proofs.reader.code_part.Tie as tie
-use Rattle.card.proofs.reader.code_part.Reads as reads
-use Rattle.card.proofs.reader.code_part.Lts as lts
-use Rattle.card.proofs.reader.read.Reads as read-reads
 
 -- an accepted image has its header
 nine : (image : List ℕ) {r : Reading} {cells : ℕ} → r ≡ readOf image → r ≡ Accepted cells → 9 ≤ length image
@@ -22,35 +20,27 @@ nine image e a =
     let l = accepts image _ (sym e ∙ a) .long in
     omega (arith, l .follows, l .least)
 
--- src/reader.rt:92:11
 read-requires : tie.Need-read-requires
 read-requires c κs = search needs
 
--- src/reader.rt:93:43
 enum-told : tie.Need-enum-told
 enum-told c = search needs
 
--- src/reader.rt:93:43
 sub-result : tie.Need-sub-result
 sub-result c = nine _ (c .before .before .read .ensures) (c .enum-told .given .1)
 
--- src/reader.rt:93:43
 part-result-start : tie.Need-part-result-start
 part-result-start c = nine _ (c .before .before .read .ensures) (c .enum-told .given .1)
 
--- src/reader.rt:93:43
 part-result-end : tie.Need-part-result-end
 part-result-end c = search needs
 
--- src/reader.rt:94:53
 enum-told-2 : tie.Need-enum-told-2
 enum-told-2 c = search needs
 
--- src/reader.rt:94:53
 slice-aggregate-result : tie.Need-slice-aggregate-result
 slice-aggregate-result c = search needs
 
--- src/reader.rt:89:1
 returns : tie.Need-returns
 unfolding codeOf
 returns c =

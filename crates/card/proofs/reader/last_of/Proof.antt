@@ -1,17 +1,16 @@
+-- `card::reader::last_of` meets its contract. Assumes nothing.
 use Prim.Native.Nat.{ℕ, zero, suc, _≤_}
 use mathlib.Core.Path.{_≡_, _∙_}
 use native.Mathlib.Omega.{arith}
 use borrow.Author.Tests.{le-ltb}
+use borrow.Author.Needs.{needs}
 use lib.Dec.{lit<}
 use lib.IntN.{pos, _-ℤ_}
 use mir.Syntax.{w32}
 use mir.Val.{SFits, toZ}
 use mir.Facts.{toZ-pos, toZ-ofZ}
-use borrow.Author.Needs.{needs}
 use Rattle.card.proofs.reader.last_of.Statement.{statement}
 use Rattle.card.proofs.reader.last_of.Tie as tie
-use Rattle.card.proofs.reader.last_of.Reads as reads
-use Rattle.card.proofs.reader.last_of.Lts as lts
 
 -- a small n read as an i32
 read-back : (n : ℕ) → n ≤ 4096 → toZ w32 n ≡ pos n
@@ -25,15 +24,12 @@ small (suc n) h = record { sfits = rw (le-ltb (suc n) 1 (omega arith)) (omega ar
 fits : (n : ℕ) → n ≤ 4096 → SFits w32 (toZ w32 n -ℤ pos 1)
 fits n h = rw (read-back n h) (small n h)
 
--- src/reader.rt:53:5
 cast-result : tie.Need-cast-result
 cast-result c = search needs
 
--- src/reader.rt:53:5
 sub-result : tie.Need-sub-result
 sub-result c = fits (c .args .n) (c .pre)
 
--- src/reader.rt:49:1
 returns : tie.Need-returns
 returns c = toZ-ofZ (fits (c .args .n) (c .pre)) ∙ rw (read-back (c .args .n) (c .pre))
 

@@ -1,14 +1,11 @@
+-- `card::reader::out_of_range` meets its contract. Assumes nothing.
 use borrow.Author.Tests.{lt-ltb, le-ltb}
 use Rattle.card.proofs.reader.out_of_range.Statement.{statement}
 use Rattle.card.proofs.reader.out_of_range.Tie as tie
-use Rattle.card.proofs.reader.out_of_range.Reads as reads
-use Rattle.card.proofs.reader.out_of_range.Lts as lts
 
--- src/reader.rt:20:1
 returns : tie.Need-returns
 returns c = rw (lt-ltb _ _ (c .if1 .taken))
 
--- src/reader.rt:20:1
 returns-2 : tie.Need-returns-2
 returns-2 c = rw (le-ltb _ _ (c .if1 .left))
 

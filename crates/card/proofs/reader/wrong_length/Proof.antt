@@ -1,32 +1,24 @@
+-- `card::reader::wrong_length` meets its contract. Assumes nothing.
 use borrow.Author.Tests.{lt-ltb, le-ltb, eq-eqb, ne-eqb}
 use borrow.Author.Needs.{needs}
 use Rattle.card.proofs.reader.wrong_length.Statement.{statement}
 use Rattle.card.proofs.reader.wrong_length.Tie as tie
-use Rattle.card.proofs.reader.wrong_length.Reads as reads
-use Rattle.card.proofs.reader.wrong_length.Lts as lts
-use Rattle.instruction.proofs.word_at.Reads as word-at-reads
 
--- src/reader.rt:30:9
 returns : tie.Need-returns
 returns c = rw (lt-ltb _ _ (c .if1 .taken))
 
--- src/reader.rt:32:21
 word-at-requires : tie.Need-word-at-requires
 word-at-requires c κs = search needs
 
--- src/reader.rt:32:21
 cast-following : tie.Need-cast-following
 cast-following c = search needs
 
--- src/reader.rt:33:5
 add-if2 : tie.Need-add-if2
 add-if2 c = search needs
 
--- src/reader.rt:26:1
 returns-2 : tie.Need-returns-2
 returns-2 c = rw (le-ltb _ _ (c .before .before .if1 .left), ← (c .before .word-at .ensures), ne-eqb _ _ (c .if2 .taken))
 
--- src/reader.rt:26:1
 returns-3 : tie.Need-returns-3
 returns-3 c = rw (le-ltb _ _ (c .before .before .if1 .left), ← (c .before .word-at .ensures), eq-eqb _ _ (c .if2 .left))
 

@@ -1,25 +1,18 @@
 -- `scan::judge` meets its contract: the verdict in each arm, as `check` gave it. Assumes nothing.
-use mir.Facts.{toZ-ofZ}
 use borrow.Author.Needs.{needs}
+use mir.Facts.{toZ-ofZ}
 use Rattle.card.proofs.scan.judge.Statement.{statement}
 use Rattle.card.proofs.scan.judge.Tie as tie
-use Rattle.card.proofs.scan.judge.Reads as reads
-use Rattle.card.proofs.scan.judge.Lts as lts
-use Rattle.instruction.proofs.check.Reads as check-reads
 
--- src/scan.rt:20:11
 check-requires : tie.Need-check-requires
 check-requires c κs = search needs
 
--- src/scan.rt:21:26
 enum-told : tie.Need-enum-told
 enum-told c = search needs
 
--- src/scan.rt:22:31
 enum-told-2 : tie.Need-enum-told-2
 enum-told-2 c = search needs
 
--- src/scan.rt:23:32
 enum-told-3 : tie.Need-enum-told-3
 enum-told-3 c = search needs
 

@@ -1,3 +1,4 @@
+-- `card::writer::put_code` meets its contract. Assumes nothing.
 use Prim.Native.Nat.{_+_, _*_, _-_, _≤_}
 use mathlib.Core.Path.{_≡_, refl, sym, _∙_}
 use native.Mathlib.Omega.{arith}
@@ -8,9 +9,6 @@ use Rattle.card.specs.Writing.{wordsBytes}
 use Rattle.card.proofs.Stores.{none-left, one-more}
 use Rattle.card.proofs.writer.put_code.Statement.{statement}
 use Rattle.card.proofs.writer.put_code.Tie as tie
-use Rattle.card.proofs.writer.put_code.Reads as reads
-use Rattle.card.proofs.writer.put_code.Lts as lts
-use Rattle.instruction.proofs.put_word.Reads as put-word-reads
 
 abbrev Inv-loop : tie.InvT-loop
 Inv-loop out₀ list i₀ out i = (i ≤ length list) × (length out ≡ length out₀) × (sets out₀ 9 (wordsBytes list) ≡ sets out (9 + 4 * i) (wordsBytes (drop i list)))
@@ -18,47 +16,36 @@ Inv-loop out₀ list i₀ out i = (i ≤ length list) × (length out ≡ length 
 abbrev μ-loop : tie.MeasureT-loop
 μ-loop out₀ list i₀ out i = length list - i
 
--- src/writer.rt:33:5
 loop-holds : tie.Need-loop-holds Inv-loop μ-loop
 loop-holds c = (search needs, refl, refl)
 
--- src/writer.rt:34:40
 mul-put-word : tie.Need-mul-put-word Inv-loop μ-loop
 mul-put-word c = omega arith
 
--- src/writer.rt:34:36
 add-put-word : tie.Need-add-put-word Inv-loop μ-loop
 add-put-word c = omega arith
 
--- src/writer.rt:34:47
 mul-put-word-2 : tie.Need-mul-put-word-2 Inv-loop μ-loop
 mul-put-word-2 c = search needs
 
--- src/writer.rt:34:47
 shared-slice-read-put-word : tie.Need-shared-slice-read-put-word Inv-loop μ-loop
 shared-slice-read-put-word c = omega arith
 
--- src/writer.rt:34:9
 put-word-requires : tie.Need-put-word-requires Inv-loop μ-loop
 put-word-requires c κs = omega arith
 
--- src/writer.rt:35:9
 add-i : tie.Need-add-i Inv-loop μ-loop
 add-i c = omega arith
 
--- src/writer.rt:33:5
 loop-less : tie.Need-loop-less Inv-loop μ-loop
 loop-less c = omega arith
 
--- src/writer.rt:33:5
 loop-again : tie.Need-loop-again Inv-loop μ-loop
 loop-again c = (omega arith, c .before .before .put-word .kept .0 ∙ c .before .before .before .before .before .before .loop .inv .1, c .before .before .before .before .before .before .loop .inv .2 ∙ one-more _ _ _ (c .before .before .before .before .before .loop-test .taken) ∙ rw (c .before .before .put-word .ensures))
 
--- src/writer.rt:28:1
 same-length : tie.Need-same-length Inv-loop μ-loop
 same-length c = c .before .loop .inv .1
 
--- src/writer.rt:28:1
 returns : tie.Need-returns Inv-loop μ-loop
 returns c = sym (c .before .loop .inv .2 ∙ none-left _ _ _ (c .loop-test .left) _)
 

@@ -1,43 +1,32 @@
+-- `card::writer::put_header` meets its contract. Assumes nothing.
 use mathlib.Core.Path.{_∙_}
 use native.Mathlib.Omega.{arith}
-use lib.ListN.{length-set}
 use borrow.Author.Needs.{needs}
+use lib.ListN.{length-set}
 use Rattle.card.proofs.writer.put_header.Statement.{statement}
 use Rattle.card.proofs.writer.put_header.Tie as tie
-use Rattle.card.proofs.writer.put_header.Reads as reads
-use Rattle.card.proofs.writer.put_header.Lts as lts
-use Rattle.instruction.proofs.put_half.Reads as put-half-reads
-use Rattle.instruction.proofs.put_word.Reads as put-word-reads
 
--- src/writer.rt:21:39
 mul-put-word : tie.Need-mul-put-word
 mul-put-word c = search needs
 
--- src/writer.rt:21:35
 add-put-word : tie.Need-add-put-word
 add-put-word c = search needs
 
--- src/writer.rt:21:5
 put-word-requires : tie.Need-put-word-requires
 put-word-requires c κs = search needs
 
--- src/writer.rt:22:5
 slice-write-out : tie.Need-slice-write-out
 slice-write-out c = search needs
 
--- src/writer.rt:23:5
 put-half-requires : tie.Need-put-half-requires
 put-half-requires c κs = simp length-set (omega (arith, c .before .before .before .put-word .kept .0))
 
--- src/writer.rt:24:5
 put-half-requires-2 : tie.Need-put-half-requires-2
 put-half-requires-2 c κs = omega (arith, c .before .before .before .put-half .kept .0, simp length-set at (c .before .before .before .put-half .kept .0), c .before .before .before .before .before .before .before .put-word .kept .0)
 
--- src/writer.rt:17:1
 same-length : tie.Need-same-length
 same-length c = c .before .before .put-half2 .kept .0 ∙ c .before .before .before .before .before .before .put-half .kept .0 ∙ simp length-set (c .before .before .before .before .before .before .before .before .before .before .put-word .kept .0)
 
--- src/writer.rt:17:1
 returns : tie.Need-returns
 returns c = rw (c .before .before .put-half2 .ensures, c .before .before .before .before .before .before .put-half .ensures, c .before .before .before .before .before .before .before .before .before .before .put-word .ensures)
 

@@ -1,9 +1,11 @@
+-- `card::writer::write` meets its contract. Assumes nothing.
 use Prim.Native.Nat.{ℕ, _+_, _*_}
 use mathlib.Core.Bool.{false, _||_}
 use mathlib.Core.List.{List, _++_}
 use mathlib.Core.Path.{_≡_, sym, _∙_}
 use native.Mathlib.Omega.{arith}
 use borrow.Author.Tests.{le-ltb, lt-ltb}
+use borrow.Author.Needs.{needs, sfits-of}
 use denote.Ref.{now}
 use lib.ListN.{length, drop}
 use mir.Syntax.{w32}
@@ -14,16 +16,8 @@ use Rattle.card.specs.Writing.{Wrote, imageOf, writeOf}
 use Rattle.card.specs.declared.writer.Writing.the-variants.{Refused, Written}
 use Rattle.card.proofs.Header.{in-range}
 use Rattle.card.proofs.Stores.{whole}
-use borrow.Author.Needs.{needs, sfits-of}
 use Rattle.card.proofs.writer.write.Statement.{statement}
 use Rattle.card.proofs.writer.write.Tie as tie
-use Rattle.card.proofs.writer.write.Reads as reads
-use Rattle.card.proofs.writer.write.Lts as lts
-use Rattle.card.proofs.reader.last_of.Reads as last-of-reads
-use Rattle.card.proofs.reader.out_of_range.Reads as out-of-range-reads
-use Rattle.card.proofs.scan.scan_words.Reads as scan-words-reads
-use Rattle.card.proofs.writer.put_code.Reads as put-code-reads
-use Rattle.card.proofs.writer.put_header.Reads as put-header-reads
 
 -- a refusal leaves the buffer
 keeps : (cells : ℕ) (list before : List ℕ) (number place : ℕ) → Refused number place ≡ writeOf cells list (length before) → Wrote cells list before (Refused number place) before
@@ -44,37 +38,29 @@ found c =
     rw (← (c .before .last-of .ensures))
     (rw (toZ-ofZ (sfits-of {w = w32} {z = c .before .last-of .result} (c .before .last-of .ok))) at (c .scan-words .ensures))
 
--- src/writer.rt:44:8
 out-of-range-requires : tie.Need-out-of-range-requires
 out-of-range-requires c κs = search needs
 
--- src/writer.rt:45:9
 returns : tie.Need-returns
 unfolding writeOf
 returns c = keeps _ _ _ _ _ (rw (← (c .before .out-of-range .ensures), c .if1 .taken))
 
--- src/writer.rt:47:8
 out-of-range-requires-2 : tie.Need-out-of-range-requires-2
 out-of-range-requires-2 c κs = search needs
 
--- src/writer.rt:48:9
 returns-2 : tie.Need-returns-2
 unfolding writeOf
 returns-2 c = keeps _ _ _ _ _ (rw (← (c .before .before .before .out-of-range .ensures), c .before .before .if1 .left, ← (c .before .out-of-range2 .ensures), c .if2 .taken))
 
--- src/writer.rt:50:72
 last-of-requires : tie.Need-last-of-requires
 last-of-requires c κs = in-range _ (sym (c .before .out-of-range2 .ensures) ∙ c .if2 .left) .most
 
--- src/writer.rt:50:42
 scan-words-requires : tie.Need-scan-words-requires
 scan-words-requires c κs = search needs
 
--- src/writer.rt:50:24
 enum-known-number : tie.Need-enum-known-number
 enum-known-number c = search needs
 
--- src/writer.rt:51:9
 returns-3 : tie.Need-returns-3
 unfolding writeOf
 returns-3 c = keeps _ _ _ _ _ (rw (sizes-fine (c .before .before .before .before .before), ← (found (c .before .before .before)), c .before .number .given .1))
@@ -82,40 +68,31 @@ returns-3 c = keeps _ _ _ _ _ (rw (sizes-fine (c .before .before .before .before
 enum-told : tie.Need-enum-told
 enum-told c = search needs
 
--- src/writer.rt:56:20
 mul-size : tie.Need-mul-size
 mul-size c = search needs
 
--- src/writer.rt:56:16
 add-size : tie.Need-add-size
 add-size c = search needs
 
--- src/writer.rt:58:9
 returns-4 : tie.Need-returns-4
 unfolding writeOf
 returns-4 c = keeps _ _ _ _ _ (rw (sizes-fine (c .before .before .before .before .before), ← (found (c .before .before .before)), c .before .enum-told .given .1, lt-ltb _ _ (c .if3 .taken)))
 
--- src/writer.rt:60:21
 cast-put-header : tie.Need-cast-put-header
 cast-put-header c = omega (arith, in-range (c .before .before .before .before .before .before .before .before .before .before .before .before .args .cells) (sym (c .before .before .before .before .before .before .before .before .before .out-of-range .ensures) ∙ c .before .before .before .before .before .before .before .before .if1 .left) .most)
 
--- src/writer.rt:60:35
 cast-put-header-2 : tie.Need-cast-put-header-2
 cast-put-header-2 c = omega (arith, in-range (length (now (c .before .before .before .before .before .before .before .before .before .before .before .before .args .list))) (sym (c .before .before .before .before .before .before .before .out-of-range2 .ensures) ∙ c .before .before .before .before .before .before .if2 .left) .most)
 
--- src/writer.rt:60:5
 put-header-requires : tie.Need-put-header-requires
 put-header-requires c κs = (omega arith, in-range _ (sym (c .before .before .before .before .before .before .before .out-of-range2 .ensures) ∙ c .before .before .before .before .before .before .if2 .left) .most)
 
--- src/writer.rt:61:5
 put-code-requires : tie.Need-put-code-requires
 put-code-requires c κs = search needs
 
--- src/writer.rt:40:1
 same-length : tie.Need-same-length
 same-length c = search needs
 
--- src/writer.rt:40:1
 returns-5 : tie.Need-returns-5
 unfolding writeOf
 returns-5 c =
