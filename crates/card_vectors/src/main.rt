@@ -74,11 +74,17 @@ fn headers() {
         b"L 10 of 14 bytes, n 1",
         b"\x00\x00\x00\x0a\x01\x00\x01\x00\x01\x00\x00\x00\x00\x00",
     );
+}
+
+fn damage() {
     changed(b"L one too small", 3, 12);
     changed(b"L one too large", 3, 14);
     changed(b"L far too large", 0, 255);
     changed(b"version 0", 4, 0);
     changed(b"P3 version 2", 4, 2);
+}
+
+fn sizes() {
     sized(b"g 0", 0, 0, 0, 2);
     sized(b"g 1", 0, 1, 0, 2);
     sized(b"g 4096", 16, 0, 0, 2);
@@ -148,6 +154,8 @@ fn longest() {
 fn main() {
     prefixes();
     headers();
+    damage();
+    sizes();
     words::operands();
     lists();
     longest();
