@@ -1,0 +1,117 @@
+-- The calls: setting up, step and run with everything that a call can meet.
+use Prim.Native.Nat.{ℕ}
+use mathlib.Core.Bool.{Bool, cond, not as negate}
+use mathlib.Core.List.{List, []}
+use lib.Dec.{eqb}
+use lib.IntN.{ℤ}
+use lib.ListN.{length}
+use Rattle.card.specs.Code.{wordsOf}
+use Rattle.card.specs.Image.{codeOf, readOf}
+use Rattle.card.specs.declared.reader.Reading.{Reading}
+use Rattle.card.specs.declared.reader.Reading.the-variants as reading
+use Rattle.machine.specs.Book.{Entry}
+use Rattle.machine.specs.Registers.{faulted, running, stuck, zeros}
+use Rattle.machine.specs.Size.{storeSize}
+use Rattle.machine.specs.State.{State, start}
+use Rattle.machine.specs.Step.{Ran, run, step}
+use Rattle.machine.specs.Tables.{sliceOf, tablesOf}
+use Rattle.machine.specs.WellFormed.{tablesFit, wellFormed}
+use Rattle.machine.specs.declared.answers.Answer.{Answer}
+use Rattle.machine.specs.declared.answers.Answer.the-variants.{Halted, Running, Stuck, Faulted, Refused}
+use Rattle.machine.specs.declared.registers.Registers.{Registers}
+
+-- what a call is lent, and what it leaves: the store, the tables, the ended threads' values, and the registers
+pub record Box : Type 0 where
+  pub store : List ℤ
+  pub tables : List ℕ
+  pub values : List ℤ
+  pub regs : Registers
+
+abbrev pub stateOf : ℕ → Box → State
+stateOf size box =
+    record { store = box .store; tables = tablesOf size (box .tables); values = box .values; regs = box .regs }
+
+abbrev pub boxOf : State → Box
+boxOf s = record { store = s .store; tables = sliceOf (s .tables); values = s .values; regs = s .regs }
+
+-- what a call gives: its answer, the instructions carried out, and the box
+pub record Called : Type 0 where
+  pub answer : Answer
+  pub trace : List Entry
+  pub box : Box
+
+-- the call's count
+abbrev pub countOf : Called → ℕ
+countOf c = length (c .trace)
+
+-- "It answers the state again, a faulted one with its number and place"
+abbrev pub answerOf : Registers → Answer
+answerOf r =
+    cond (eqb (r .state) running) Running
+    (cond (eqb (r .state) stuck) Stuck
+    (cond (eqb (r .state) faulted) (Faulted (r .fault) (r .pc))
+    Halted))
+
+-- an answer's number in the paper's table, 0 where there is none, and its place
+abbrev pub numberOf : Answer → ℕ
+numberOf Halted = 0
+numberOf Running = 0
+numberOf Stuck = 0
+numberOf (Faulted number place) = number
+numberOf (Refused number place) = number
+
+abbrev pub placeOf : Answer → ℕ
+placeOf Halted = 0
+placeOf Running = 0
+placeOf Stuck = 0
+placeOf (Faulted number place) = place
+placeOf (Refused number place) = place
+
+-- "Numbers 1 to 8 alter nothing, and the registers come back as given with count 0"
+abbrev pub refused : ℕ → ℕ → Box → Called
+refused number place box = record { answer = Refused number place; trace = []; box = box }
+
+abbrev pub ranOf : Ran → Called
+ranOf r = record { answer = answerOf (r .state .regs); trace = r .trace; box = boxOf (r .state) }
+
+-- 6: "store not 8,192 cells"
+abbrev pub storeFits : ℕ → List ℤ → Bool
+storeFits size store = eqb (length store) (storeSize size)
+
+-- a call on an accepted card: 6, then 7, "tables not well formed"
+abbrev pub accepted : ℕ → Box → Ran → Called
+accepted size box ran =
+    cond (negate (storeFits size (box .store))) (refused 6 0 box)
+    (cond (negate (wellFormed size (box .regs) (box .tables) (box .values))) (refused 7 0 box)
+    (ranOf ran))
+
+-- "In order: 1, 2, 3, then the first bad instruction (4 before 5), 6, 7"; "numbers 1 to 7 are tested before that, by a run of 0 steps too"
+abbrev pub judged : ℕ → Reading → Box → Ran → Called
+judged size (reading.Refused number place) box ran = refused number place box
+judged size (reading.Accepted cells) box ran = accepted size box ran
+
+-- the words of a card
+abbrev pub cardOf : List ℕ → List ℕ
+cardOf image = wordsOf (codeOf image)
+
+unfoldable pub stepCall : ℕ → List ℕ → Box → Called
+stepCall size image box = judged size (readOf image) box (step size (cardOf image) (stateOf size box))
+
+unfoldable pub runCall : ℕ → List ℕ → ℕ → Box → Called
+runCall size image m box = judged size (readOf image) box (run size (cardOf image) (stateOf size box) m)
+
+-- "a refused set-up gives all registers 0, halted"
+abbrev pub refusedSetUp : ℕ → ℕ → Box → Called
+refusedSetUp number place box =
+    refused number place (record { store = box .store; tables = box .tables; values = box .values; regs = zeros })
+
+-- "Setting up gives 7 only for a lent table of the wrong size"
+abbrev pub setUpOf : ℕ → Reading → Box → Called
+setUpOf size (reading.Refused number place) box = refusedSetUp number place box
+setUpOf size (reading.Accepted cells) box =
+    cond (negate (storeFits size (box .store))) (refusedSetUp 6 0 box)
+    (cond (negate (tablesFit size (box .tables) (box .values))) (refusedSetUp 7 0 box)
+    (record { answer = Running; trace = []; box = boxOf (start size cells) }))
+
+unfoldable pub setUp : ℕ → List ℕ → Box → Called
+setUp size image box = setUpOf size (readOf image) box

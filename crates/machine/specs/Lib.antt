@@ -1,0 +1,13 @@
+pub mod Size
+pub mod Lists
+pub mod Registers
+pub mod Tables
+pub mod State
+pub mod Instructions
+pub mod Execution
+pub mod Book
+pub mod Step
+pub mod WellFormed
+pub mod Plain
+pub mod Calls
+pub mod Demand

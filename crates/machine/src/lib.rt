@@ -1,0 +1,11 @@
+// The machine's types: registers by value, the numbers of threads, mutexes and conditions, and the answers.
+mod answers;
+mod numbers;
+mod registers;
+
+pub use answers::Answer;
+pub use numbers::Condition;
+pub use numbers::First;
+pub use numbers::Mutex;
+pub use numbers::Thread;
+pub use registers::Registers;
