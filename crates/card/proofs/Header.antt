@@ -5,6 +5,7 @@ use mathlib.Core.Bool.{Bool, true, false, cond, not, _||_}
 use mathlib.Core.List.{List}
 use native.Mathlib.Omega.{arith}
 use lib.Dec.{ltb, eqb}
+use lib.IntN.{ℤ}
 use lib.ListN.{length, drop}
 use borrow.Author.Tests.{ltb-false, eqb-true, not-false, le-ltb, eq-eqb}
 use Rattle.instruction.specs.Bytes.{byteOf}
@@ -14,6 +15,7 @@ use Rattle.card.specs.declared.scan.Scan.{Scan}
 use Rattle.card.specs.declared.scan.Scan.the-variants.{Fine, Bad}
 use Rattle.card.specs.declared.reader.Reading.{Reading}
 use Rattle.card.specs.declared.reader.Reading.the-variants.{Accepted, Refused}
+use Rattle.card.proofs.Search.{found-number}
 
 -- both tests failed
 pub or-false : (a b : Bool) → (a || b) ≡ false → (a ≡ false) × (b ≡ false)
@@ -130,3 +132,21 @@ accepted image cells a =
     neither (outOfRange (cellsOf image)) _ (not-out _ (a .sized .cells))
     (neither (outOfRange (countOf image)) _ (not-out _ (a .sized .count)) (rw (eq-eqb _ _ (a .sized .exact)))) in
     rw (l, eq-eqb _ _ (a .version), s, a .code) (ap Accepted (a .globals))
+
+-- a refusal's number is 1 to 5
+refused-code : (g : ℕ) (last : ℤ) (ws : List ℕ) (s : Scan) {number place : ℕ} → firstBad last 0 ws ≡ s → placed g s ≡ Refused number place → (1 ≤ number) × (number ≤ 5)
+refused-code g last ws Fine f e = absurd (let z : _≡_ {A = ℕ} 0 1 = cc in omega arith)
+refused-code g last ws (Bad k index) {number} f e =
+    let same : k ≡ number = cc in
+    let found = found-number last ws 0 f in
+    omega arith
+
+pub refused-number : (image : List ℕ) (number place : ℕ) → readOf image ≡ Refused number place → (1 ≤ number) × (number ≤ 5)
+unfolding readOf readCode
+refused-number image number place e = by-test (lengthWrong image) (versionWrong image) (sizesWrong image) e
+  where
+    by-test : (a b c : Bool) → cond a (Refused 1 0) (cond b (Refused 2 4) (cond c (Refused 3 5) (readCode image))) ≡ Refused number place → (1 ≤ number) × (number ≤ 5)
+    by-test true b c r = let same : 1 ≡ number = cc in omega arith
+    by-test false true c r = let same : 2 ≡ number = cc in omega arith
+    by-test false false true r = let same : 3 ≡ number = cc in omega arith
+    by-test false false false r = refused-code (cellsOf image) (lastOf (countOf image)) (wordsOf (drop headerSize image)) _ refl r

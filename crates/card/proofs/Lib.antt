@@ -4,4 +4,3 @@ pub mod Header
 pub mod Stores
 pub mod Success
 pub mod RoundTrip
-pub mod Sessions

@@ -45,3 +45,15 @@ module _ (last : ℤ) (ws : List ℕ) (i : ℕ) where
   -- after a good one it goes on
   pub goes-on : (w : ℕ) → i < length ws → getD ws i 0 ≡ w → scanOf (checkOf last w) i ≡ Fine → firstBad last i (drop i ws) ≡ firstBad last (i + 1) (drop (i + 1) ws)
   goes-on w h e good = rw (from h, e, good, add-one)
+
+-- what the search finds has number 4 or 5
+pub found-number : (last : ℤ) (ws : List ℕ) (i : ℕ) {number index : ℕ} → firstBad last i ws ≡ Bad number index → (4 ≤ number) × (number ≤ 5)
+unfolding firstBad
+found-number last [] i e = absurd (let z : _≡_ {A = ℕ} 0 1 = cc in omega arith)
+found-number last (w ∷ ws) i {number} {index} e = by-verdict (checkOf last w) (found-number last ws (suc i)) e
+  where
+    by-verdict : (v : Verdict) → (firstBad last (suc i) ws ≡ Bad number index → (4 ≤ number) × (number ≤ 5)) →
+        orElse (scanOf v i) (firstBad last (suc i) ws) ≡ Bad number index → (4 ≤ number) × (number ≤ 5)
+    by-verdict verdict.Fine later r = later r
+    by-verdict verdict.BadOpcode later r = let same : 4 ≡ number = cc in omega arith
+    by-verdict verdict.BadOperand later r = let same : 5 ≡ number = cc in omega arith

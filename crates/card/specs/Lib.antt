@@ -2,4 +2,3 @@ pub mod Code
 pub mod Image
 pub mod Writing
 pub mod RoundTrip
-pub mod Sessions

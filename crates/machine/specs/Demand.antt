@@ -11,9 +11,9 @@ use Rattle.card.specs.declared.reader.Reading.the-variants as reading
 use Rattle.machine.specs.Book.{Book, Entry, blank, bookOf, namesLeft}
 use Rattle.machine.specs.Calls.{Box, Called, runCall, setUp, stateOf, stepCall}
 use Rattle.machine.specs.Lists.{count}
-use Rattle.machine.specs.Size.{mutexLimit, storeSize, tablesSize, valuesSize}
+use Rattle.machine.specs.Size.{full, mutexLimit, shared, storeSize, tablesSize, valuesSize}
 use Rattle.machine.specs.State.{State}
-use Rattle.machine.specs.Tables.{Tables, atMutex, ownerOf, placeLimit, queue, ready}
+use Rattle.machine.specs.Tables.{Tables, atMutex, ownerOf, queue, ready}
 use Rattle.machine.specs.declared.answers.Answer.{Answer}
 use Rattle.machine.specs.declared.answers.Answer.the-variants.{Refused}
 
@@ -22,9 +22,13 @@ unfoldable pub waitsIn : Tables → ℕ → ℕ → ℕ → ℕ
 waitsIn tables t from zero = 0
 waitsIn tables t from (suc k) = count t (queue tables from) + waitsIn tables t (suc from) k
 
+-- the running thread, as a list of one name or none
+abbrev pub runnerOf : ℕ → State → List ℕ
+runnerOf size s = cond (eqb (s .regs .thread) size) [] (s .regs .thread ∷ [])
+
 -- in how many places a thread is: running, the ready queue, and every wait queue of mutexes, conditions and awaited threads
 unfoldable pub placesOf : ℕ → State → ℕ → ℕ
-placesOf size s t = cond (eqb t (s .regs .thread)) 1 0 + waitsIn (s .tables) t ready (1 + 5 * size)
+placesOf size s t = count t (runnerOf size s) + waitsIn (s .tables) t ready (1 + 5 * size)
 
 -- a mutex's owner, as a list of one name or none
 abbrev pub holderOf : ℕ → Tables → ℕ → List ℕ
@@ -85,13 +89,26 @@ pub record Claim (size : ℕ) (calls : List Call) (box : Box) : Type 0 where
   pub fair : Fair size (stateOf size (played size calls box .box)) (bookOf blank (played size calls box .trace))
   pub sound : Each NotDamaged (played size calls box .answers)
 
--- the demand: any accepted card, any lent memory of the right sizes, any list of step and run calls
-abbrev pub Demand3 : ℕ → Type 0
-Demand3 size =
+-- the demand for a box of any size: any accepted card whose global cells it has, any lent memory of the right sizes, any list of step and
+-- run calls
+abbrev pub DemandFor : ℕ → Type 0
+DemandFor size =
     (card : List ℕ) (cells : ℕ) (lent : Box) (calls : List Call) →
     readOf card ≡ reading.Accepted cells →
+    cells ≤ shared size →
     length (lent .store) ≡ storeSize size →
     length (lent .tables) ≡ tablesSize size →
     length (lent .values) ≡ valuesSize size →
     Each (Fitting card) calls →
     Claim size calls (setUp size card lent .box)
+
+-- and for the paper's box, where every accepted card's global cells are there
+abbrev pub Demand3 : Type 0
+Demand3 =
+    (card : List ℕ) (cells : ℕ) (lent : Box) (calls : List Call) →
+    readOf card ≡ reading.Accepted cells →
+    length (lent .store) ≡ 8192 →
+    length (lent .tables) ≡ tablesSize full →
+    length (lent .values) ≡ 32 →
+    Each (Fitting card) calls →
+    Claim full calls (setUp full card lent .box)

@@ -11,3 +11,5 @@ pub mod WellFormed
 pub mod Plain
 pub mod Calls
 pub mod Demand
+pub mod Runner
+pub mod Sessions

@@ -27,14 +27,18 @@ still s = record { state = s; trace = [] }
 abbrev pub faultedAt : State → ℕ → Ran
 faultedAt s number = still (withRegs s (stopped (s .regs) number))
 
--- an instruction was carried out, and is entered; "a faulting one isn't counted"
-abbrev pub entered : ℕ → State → Instruction → Outcome → Ran
-entered size s i (done u) = record { state = u; trace = record { thread = s .regs .thread; event = eventOf size s i u } ∷ [] }
-entered size s i (fault number) = faultedAt s number
+-- an instruction was carried out from a state, and is entered; "a faulting one isn't counted"
+abbrev pub entered : ℕ → State → State → Instruction → Outcome → Ran
+entered size s from i (done u) =
+    record { state = u; trace = record { thread = from .regs .thread; event = eventOf size from i u } ∷ [] }
+entered size s from i (fault number) = faultedAt s number
 
 -- "PC advances past the instruction first"
+abbrev pub onward : State → State
+onward s = withRegs s (advanced (s .regs))
+
 abbrev pub executed : ℕ → ℕ → State → Instruction → Ran
-executed size n s i = entered size s i (exec size n (withRegs s (advanced (s .regs))) i)
+executed size n s i = entered size s (onward s) i (exec size n (onward s) i)
 
 -- the instruction at PC; 20: "PC ≥ n"
 unfoldable pub carried : ℕ → List ℕ → State → Ran

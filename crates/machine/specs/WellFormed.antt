@@ -1,4 +1,4 @@
--- "Well formed": each clause of the paper as a test that computes. proofs/WellFormed.antt proves the plain reading of each from it, and back.
+-- "Well formed": each clause of the paper as a test that computes. Plain.antt has the plain reading of each, proved from it and back.
 use Prim.Native.Nat.{ℕ, _+_, _-_, _*_}
 use mathlib.Core.Bool.{Bool, true, false, cond, not as negate, _&&_, _||_}
 use mathlib.Core.List.{List, [], _∷_}

@@ -1,0 +1,367 @@
+-- Each change of the tables that instructions are made of keeps them tidy and the book right. Assumes nothing.
+use Prim.Native.Nat.{ℕ, zero, suc, _+_, _*_, _<_, _≤_}
+use mathlib.Core.Path.{_≡_, refl, sym, ap, subst, _∙_}
+use mathlib.Core.Bool.{Bool, true, false}
+use mathlib.Core.List.{List, [], _∷_, _++_}
+use mathlib.Core.Logic.{_⊎_, _≢_, inl, inr, ⊎-elim}
+use native.Mathlib.Omega.{arith}
+use lib.Dec.{ltb}
+use lib.IntN.{pos}
+use lib.ListN.{length, getD}
+use borrow.Author.Tests.{eq-eqb, ne-eqb, lt-ltb, le-ltb}
+use Rattle.machine.specs.Book.{Book, Entry, Event, fed, locks, unlocks, creates}
+use Rattle.machine.specs.Book as event
+use Rattle.machine.specs.Lists.{count}
+use Rattle.machine.specs.Plain.{Counts, Frame, Line, Placed, Tidy}
+use Rattle.machine.specs.Size.{conditionLimit, mutexLimit}
+use Rattle.machine.specs.Tables.{Tables, active, allReady, atCondition, atEnd, atMutex, ended, first, give, lives, owned, ownerOf, placeOf, queue, ready, saved, sent, unlocked, unmade, wakeAll, wakeFirst, wakeOne}
+use Rattle.machine.proofs.Booked.{Booked, booked-ended, booked-freed, booked-given, booked-made, booked-same, booked-sent, booked-taken, booked-waits, entry}
+use Rattle.machine.proofs.Lists.{less-or-not, same-or-not}
+use Rattle.machine.proofs.Moves.{Kempt, May, moved, owner-set}
+use Rattle.machine.proofs.Queues.{Sizes, empty-queue, first-at, first-in-line, first-nobody, first-waiter, no-queue, owned-here, owned-line, owned-places, owned-queue, owned-saved, owned-sizes, owned-there, queue-left, saved-depth, saved-frame, saved-line, saved-other, saved-owners, saved-pc, saved-places, saved-queue, saved-sizes, sent-here, sent-owner, sent-there}
+
+-- tables that are kept right, and the book beside them
+pub record Both (size threads mutexes conditions run : ℕ) (tables : Tables) (book : Book) : Type 0 where
+  pub kempt : Kempt size threads mutexes conditions run tables
+  pub booked : Booked size tables book
+
+module _ {size threads mutexes conditions run : ℕ} {tables : Tables} {book : Book} (b : Both size threads mutexes conditions run tables book) where
+  pub inside : (t : ℕ) → t < size → t < length (tables .places)
+  inside t h = rw (b .kempt .sizes .places) h
+
+  pub once : (t : ℕ) → t < size → count t (tables .line) ≡ 1
+  once = b .kempt .tidy .line .once
+
+  -- who occurs in the line is a thread of the box
+  pub in-line : (t : ℕ) → 0 < count t (tables .line) → t < size
+  in-line t h = less-or-not t size (λ k. k) (λ k. absurd (omega (arith, b .kempt .tidy .line .no-other t k)))
+
+  -- registers are saved of a thread
+  pub saves : (t pc cells fp : ℕ) → t < size → Frame pc cells fp → Both size threads mutexes conditions run (saved tables t pc cells fp) book
+  saves t pc cells fp below f =
+      let next : Tables = saved tables t pc cells fp in
+      let s = b .kempt .sizes in
+      let y = b .kempt .tidy in
+      record {
+        kempt =
+            record {
+              sizes = saved-sizes tables t pc cells fp size s;
+              tidy =
+                  record {
+                    counts = y .counts;
+                    line = rw (saved-line tables t pc cells fp) (y .line);
+                    placed =
+                        λ u h.
+                        let old = y .placed u h in
+                        record {
+                          not-made = rw (saved-places tables t pc cells fp) (old .not-made);
+                          is-made = rw (saved-places tables t pc cells fp) (old .is-made);
+                          only-run = rw (saved-places tables t pc cells fp) (old .only-run);
+                          for-mutex = rw (saved-places tables t pc cells fp, saved-owners tables t pc cells fp) (old .for-mutex);
+                          for-condition = rw (saved-places tables t pc cells fp) (old .for-condition);
+                          for-end = rw (saved-places tables t pc cells fp) (old .for-end);
+                          kept =
+                              λ waits.
+                              same-or-not u t
+                              (λ e.
+                              subst (λ (x : ℕ). Frame (getD (next .pcs) x 0) (getD (next .depths) x 0) (getD (next .frames) x 0)) (sym e)
+                              (rw (
+                                saved-pc tables t pc cells fp (rw (s .pcs) below),
+                                saved-depth tables t pc cells fp (rw (s .depths) below),
+                                saved-frame tables t pc cells fp (rw (s .frames) below),
+                              )
+                              f))
+                              (λ e.
+                              let same = saved-other tables t pc cells fp u e in
+                              rw (same .0, same .1, same .2) (old .kept (rw (saved-places tables t pc cells fp) at waits)));
+                        };
+                    runner = rw (saved-places tables t pc cells fp) (y .runner);
+                    holders = rw (saved-owners tables t pc cells fp) (y .holders);
+                  };
+            };
+        booked = booked-same size tables book (b .booked) next (saved-places tables t pc cells fp) (saved-owners tables t pc cells fp) (saved-queue tables t pc cells fp);
+      }
+
+  -- the thread at the head of a queue
+  pub head-below : (q t : ℕ) (rest : List ℕ) → queue tables q ≡ t ∷ rest → t < size
+  head-below q t rest e = in-line t (first-in-line tables q t rest e)
+
+  -- nobody is at the place of an empty queue
+  pub nobody-at : (q : ℕ) → queue tables q ≡ [] → (s : ℕ) → s < size → placeOf tables s ≢ q
+  nobody-at q e s h = empty-queue tables q e s (rw (once s h) (omega arith))
+
+  -- a thread at a place past its making has been made
+  pub made-at : (t : ℕ) → t < size → unmade < placeOf tables t → t < threads
+  made-at t h p = less-or-not t threads (λ k. k) (λ k. absurd (omega (arith, b .kempt .tidy .placed t h .not-made k)))
+
+  -- the running thread leaves for a place that is no mutex's: ready, a condition's queue, or another's end
+  pub leaves : (p : ℕ) → run ≢ size → ready ≤ p → ((m : ℕ) → m < mutexLimit size → p ≢ atMutex m) →
+      ((c : ℕ) → c < conditionLimit size → p ≡ atCondition size c → c < conditions) →
+      ((u : ℕ) → p ≡ atEnd size u → (u < threads) × (placeOf tables u ≢ ended)) →
+      Frame (getD (tables .pcs) run 0) (getD (tables .depths) run 0) (getD (tables .frames) run 0) →
+      Both size threads mutexes conditions size (sent tables run p) book
+  leaves p some waits no-mutex condition end f =
+      let y = b .kempt .tidy in
+      let r = y .runner some in
+      let below : run < size = omega (arith, r .0, y .counts .threads-fit) in
+      record {
+        kempt =
+            moved (b .kempt) run p threads size
+            (record {
+              below = below;
+              more = omega arith;
+              most = y .counts .threads-fit;
+              only-new = λ s h away. h;
+              is-made = r .0;
+              somewhere = omega arith;
+              to-run = λ e. absurd (omega arith);
+              others-run = λ s h away e. absurd (away e);
+              runner = λ h. absurd (h refl);
+              to-mutex = λ m h e. absurd (no-mutex m h e);
+              to-condition = condition;
+              to-end = λ u e. (end u e .0, λ away. end u e .1);
+              unawaited = λ e. absurd (omega arith);
+              has-frame = λ h. f;
+            });
+        booked =
+            booked-sent size tables book (b .booked) run p (inside run below) no-mutex (λ m h e. omega (arith, r .1, e))
+            (rw (r .1) (lt-ltb ended p (omega arith)));
+      }
+
+  -- the running thread waits for a mutex that is owned
+  pub waits : (m : ℕ) → run ≢ size → m < mutexes → ownerOf tables m ≢ size →
+      Frame (getD (tables .pcs) run 0) (getD (tables .depths) run 0) (getD (tables .frames) run 0) →
+      Both size threads mutexes conditions size (sent tables run (atMutex m)) (fed book (entry run (locks m)))
+  waits m some made held f =
+      let y = b .kempt .tidy in
+      let r = y .runner some in
+      let below : run < size = omega (arith, r .0, y .counts .threads-fit) in
+      let limit : m < mutexLimit size = omega (arith, y .counts .mutexes-fit) in
+      record {
+        kempt =
+            moved (b .kempt) run (atMutex m) threads size
+            (record {
+              below = below;
+              more = omega arith;
+              most = y .counts .threads-fit;
+              only-new = λ s h away. h;
+              is-made = r .0;
+              somewhere = omega arith;
+              to-run = λ e. absurd (omega arith);
+              others-run = λ s h away e. absurd (away e);
+              runner = λ h. absurd (h refl);
+              to-mutex = λ k h e. let same : m ≡ k = omega (arith, e) in (rw (← same) made, rw (← same) held);
+              to-condition = λ c h e. absurd (omega (arith, e, limit));
+              to-end = λ u e. absurd (omega (arith, e, limit));
+              unawaited = λ e. absurd (omega arith);
+              has-frame = λ h. f;
+            });
+        booked =
+            booked-waits size tables book (b .booked) m run limit (inside run below) (once run below) (λ k h e. omega (arith, r .1, e))
+            (rw (r .1));
+      }
+
+  -- the first of the ready queue starts, where none runs
+  pub starts : (t : ℕ) (rest : List ℕ) → run ≡ size → queue tables ready ≡ t ∷ rest → Both size threads mutexes conditions t (sent tables t active) book
+  starts t rest none e =
+      let y = b .kempt .tidy in
+      let below : t < size = head-below ready t rest e in
+      let at : placeOf tables t ≡ ready = first-at tables ready t rest e in
+      let made : t < threads = made-at t below (omega arith) in
+      record {
+        kempt =
+            moved (b .kempt) t active threads t
+            (record {
+              below = below;
+              more = omega arith;
+              most = y .counts .threads-fit;
+              only-new = λ s h away. h;
+              is-made = made;
+              somewhere = omega arith;
+              to-run = λ e. refl;
+              others-run = λ s h away e. absurd (omega (arith, e, none));
+              runner = λ h. inl (refl, refl);
+              to-mutex = λ m h e. absurd (omega (arith, e));
+              to-condition = λ c h e. absurd (omega (arith, e));
+              to-end = λ u e. absurd (omega (arith, e));
+              unawaited = λ e. absurd (omega (arith, e));
+              has-frame = λ h. absurd (omega arith);
+            });
+        booked =
+            booked-sent size tables book (b .booked) t active (inside t below) (λ m h e. omega (arith, e)) (λ m h e. omega (arith, at, e))
+            (rw at);
+      }
+
+  -- a thread in the queue of a condition, or of a thread's end, becomes ready
+  pub wakes : (t q : ℕ) → t < size → placeOf tables t ≡ q → ready < q → ((m : ℕ) → m < mutexLimit size → q ≢ atMutex m) → Both size threads mutexes conditions run (sent tables t ready) book
+  wakes t q below at high no-mutex =
+      let y = b .kempt .tidy in
+      let made : t < threads = made-at t below (omega arith) in
+      let idle : run ≢ t = λ e. let r = y .runner (λ none. omega (arith, e, none)) in let active-too : placeOf tables t ≡ active = rw e at (r .1) in omega arith in
+      record {
+        kempt =
+            moved (b .kempt) t ready threads run
+            (record {
+              below = below;
+              more = omega arith;
+              most = y .counts .threads-fit;
+              only-new = λ s h away. h;
+              is-made = made;
+              somewhere = omega arith;
+              to-run = λ e. absurd (omega (arith, e));
+              others-run = λ s h away e. e;
+              runner = λ h. inr (refl, idle);
+              to-mutex = λ m h e. absurd (omega (arith, e));
+              to-condition = λ c h e. absurd (omega (arith, e));
+              to-end = λ u e. absurd (omega (arith, e));
+              unawaited = λ e. absurd (omega (arith, e));
+              has-frame = λ h. y .placed t below .kept (omega arith);
+            });
+        booked =
+            booked-sent size tables book (b .booked) t ready (inside t below) (λ m h e. omega (arith, e)) (λ m h e. no-mutex m h (sym at ∙ e))
+            (rw at (sym (lt-ltb ended q (omega arith))));
+      }
+
+  -- a free mutex is taken by the running thread
+  pub takes : (m : ℕ) → run ≢ size → m < mutexes → ownerOf tables m ≡ size → Both size threads mutexes conditions run (owned tables m run) (fed book (entry run (locks m)))
+  takes m some made none =
+      let y = b .kempt .tidy in
+      let r = y .runner some in
+      let limit : m < mutexLimit size = omega (arith, y .counts .mutexes-fit) in
+      let idle : queue tables (atMutex m) ≡ [] = no-queue tables (atMutex m) (λ t h e. y .placed t (in-line t h) .for-mutex m limit e .1 none) in
+      record {
+        kempt = owner-set (b .kempt) m run made (λ h. r .0) (λ e. absurd (some e));
+        booked = booked-taken size tables book (b .booked) m run limit (rw (b .kempt .sizes .owners) limit) none idle some;
+      }
+
+  -- a mutex that is owned becomes free, or goes to its first waiter
+  pub gives : (m t : ℕ) → m < mutexes → ownerOf tables m ≢ size → Both size threads mutexes conditions run (unlocked size tables m) (fed book (entry t (unlocks m)))
+  gives m t made held = by-queue (queue tables (atMutex m)) refl
+    where
+      y : Tidy size threads mutexes conditions run tables
+      y = b .kempt .tidy
+
+      limit : m < mutexLimit size
+      limit = omega (arith, y .counts .mutexes-fit, made)
+
+      stored : m < length (tables .owners)
+      stored = rw (b .kempt .sizes .owners) limit
+
+      by-queue : (l : List ℕ) → queue tables (atMutex m) ≡ l → Both size threads mutexes conditions run (unlocked size tables m) (fed book (entry t (unlocks m)))
+      by-queue [] e =
+          rw (first-nobody tables (atMutex m) e)
+          (record {
+            kempt = owner-set (b .kempt) m size made (λ h. absurd (h refl)) (λ same s h. nobody-at (atMutex m) e s h);
+            booked = booked-freed size tables book (b .booked) m t (ownerOf tables m) limit stored refl held e;
+          })
+      by-queue (w ∷ rest) e =
+          let below : w < size = head-below (atMutex m) w rest e in
+          let at : placeOf tables w ≡ atMutex m = first-at tables (atMutex m) w rest e in
+          let real : w ≢ size = λ same. omega arith in
+          let mine : w < threads = made-at w below (omega arith) in
+          let next = owner-set (b .kempt) m w made (λ h. mine) (λ same. absurd (real same)) in
+          let idle : run ≢ w = λ same. let r = y .runner (λ none. omega (arith, same, none)) in let active-too : placeOf tables w ≡ active = rw same at (r .1) in omega arith in
+          rw (first-waiter tables (atMutex m) w rest e)
+          (record {
+            kempt =
+                moved next w ready threads run
+                (record {
+                  below = below;
+                  more = omega arith;
+                  most = y .counts .threads-fit;
+                  only-new = λ s h away. h;
+                  is-made = mine;
+                  somewhere = omega arith;
+                  to-run = λ k. absurd (omega (arith, k));
+                  others-run = λ s h away k. k;
+                  runner = λ h. inr (refl, idle);
+                  to-mutex = λ j h k. absurd (omega (arith, k));
+                  to-condition = λ c h k. absurd (omega (arith, k));
+                  to-end = λ u k. absurd (omega (arith, k));
+                  unawaited = λ k. absurd (omega (arith, k));
+                  has-frame = λ h. next .tidy .placed w below .kept (rw (owned-places tables m w, at) (omega arith));
+                });
+            booked = booked-given size tables book (b .booked) m t (ownerOf tables m) w rest limit stored refl held e at (inside w below) (once w below) real;
+          })
+
+  -- a thread is made, and is ready
+  pub makes : (t : ℕ) → threads < size → Frame (getD (tables .pcs) threads 0) (getD (tables .depths) threads 0) (getD (tables .frames) threads 0) →
+      Both size (threads + 1) mutexes conditions run (sent tables threads ready) (fed book (entry t (creates (pos threads))))
+  makes t room f =
+      let y = b .kempt .tidy in
+      let none : placeOf tables threads ≡ unmade = y .placed threads room .not-made (omega arith) in
+      let idle : run ≢ threads = λ same. let r = y .runner (λ out. omega (arith, same, out)) in omega (arith, r .0, same) in
+      record {
+        kempt =
+            moved (b .kempt) threads ready (threads + 1) run
+            (record {
+              below = room;
+              more = omega arith;
+              most = omega arith;
+              only-new = λ s h away. less-or-not s threads (λ k. k) (λ k. absurd (away (omega arith)));
+              is-made = omega arith;
+              somewhere = omega arith;
+              to-run = λ e. absurd (omega (arith, e));
+              others-run = λ s h away e. e;
+              runner = λ h. inr (refl, idle);
+              to-mutex = λ m h e. absurd (omega (arith, e));
+              to-condition = λ c h e. absurd (omega (arith, e));
+              to-end = λ u e. absurd (omega (arith, e));
+              unawaited = λ e. absurd (omega (arith, e));
+              has-frame = λ h. f;
+            });
+        booked = booked-made size tables book (b .booked) threads ready (inside threads room) (λ m h e. omega (arith, e)) (λ m h e. omega (arith, none, e)) (omega arith) t;
+      }
+
+  -- the running thread ends, where nobody waits for it
+  pub stops : run ≢ size → queue tables (atEnd size run) ≡ [] → Both size threads mutexes conditions size (sent tables run ended) (fed book (entry run event.ends))
+  stops some e =
+      let y = b .kempt .tidy in
+      let r = y .runner some in
+      let below : run < size = omega (arith, r .0, y .counts .threads-fit) in
+      record {
+        kempt =
+            moved (b .kempt) run ended threads size
+            (record {
+              below = below;
+              more = omega arith;
+              most = y .counts .threads-fit;
+              only-new = λ s h away. h;
+              is-made = r .0;
+              somewhere = omega arith;
+              to-run = λ k. absurd (omega (arith, k));
+              others-run = λ s h away k. absurd (away k);
+              runner = λ h. absurd (h refl);
+              to-mutex = λ m h k. absurd (omega (arith, k));
+              to-condition = λ c h k. absurd (omega (arith, k));
+              to-end = λ u k. absurd (omega (arith, k));
+              unawaited = λ k s h. nobody-at (atEnd size run) e s h;
+              has-frame = λ h. absurd (omega (arith, h));
+            });
+        booked = booked-ended size tables book (b .booked) run (inside run below) (λ m h k. omega (arith, r .1, k));
+      }
+
+-- the first of a queue that is no mutex's becomes ready, if there is one
+pub wakes-first : {size threads mutexes conditions run : ℕ} {tables : Tables} {book : Book} → Both size threads mutexes conditions run tables book →
+    (q : ℕ) → ready < q → ((m : ℕ) → m < mutexLimit size → q ≢ atMutex m) → Both size threads mutexes conditions run (wakeFirst tables q) book
+wakes-first {size} {threads} {mutexes} {conditions} {run} {tables} {book} b q high no-mutex = by-queue (queue tables q) refl
+  where
+    by-queue : (l : List ℕ) → queue tables q ≡ l → Both size threads mutexes conditions run (wakeFirst tables q) book
+    by-queue [] e = rw (first-nobody tables q e) b
+    by-queue (t ∷ rest) e = rw (first-waiter tables q t rest e) (wakes b t q (head-below b q t rest e) (first-at tables q t rest e) high no-mutex)
+
+-- all of such a queue become ready, and it is empty
+wake-list : {size threads mutexes conditions run : ℕ} {book : Book} (l : List ℕ) (tables : Tables) → Both size threads mutexes conditions run tables book →
+    (q : ℕ) → ready < q → ((m : ℕ) → m < mutexLimit size → q ≢ atMutex m) → queue tables q ≡ l →
+    Both size threads mutexes conditions run (allReady l tables) book × (queue (allReady l tables) q ≡ [])
+unfolding allReady
+wake-list [] tables b q high no-mutex e = (b, e)
+wake-list (t ∷ rest) tables b q high no-mutex e =
+    let below = head-below b q t rest e in
+    wake-list rest (sent tables t ready) (wakes b t q below (first-at tables q t rest e) high no-mutex) q high no-mutex
+    (queue-left tables t ready q rest (inside b t below) (once b t below) (λ k. omega (arith, k)) e)
+
+pub wakes-all : {size threads mutexes conditions run : ℕ} {tables : Tables} {book : Book} → Both size threads mutexes conditions run tables book →
+    (q : ℕ) → ready < q → ((m : ℕ) → m < mutexLimit size → q ≢ atMutex m) →
+    Both size threads mutexes conditions run (wakeAll tables q) book × (queue (wakeAll tables q) q ≡ [])
+wakes-all {tables = tables} b q high no-mutex = wake-list (queue tables q) tables b q high no-mutex refl

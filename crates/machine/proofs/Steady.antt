@@ -1,0 +1,263 @@
+-- What holds of a machine between instructions, beside its book; and that Next, blocking and ending keep it. Assumes nothing.
+use Prim.Native.Nat.{ℕ, zero, suc, _+_, _-_, _*_, _<_, _≤_}
+use mathlib.Core.Path.{_≡_, refl, sym, ap, subst, _∙_}
+use mathlib.Core.Bool.{Bool, true, false, cond}
+use mathlib.Core.List.{List, [], _∷_}
+use mathlib.Core.Logic.{_≢_}
+use native.Mathlib.Omega.{arith}
+use lib.Dec.{ltb}
+use lib.IntN.{ℤ}
+use lib.ListN.{length, getD, set, length-set}
+use borrow.Author.Tests.{ltb-true, ltb-false}
+use Rattle.machine.specs.Book.{Book, fed}
+use Rattle.machine.specs.Book as event
+use Rattle.machine.specs.Plain.{Fault, Frame, Lives, Mode, Placed, Tidy}
+use Rattle.machine.specs.Registers.{halted, nobody, running, stuck, withState}
+use Rattle.machine.specs.Size.{conditionLimit, mutexLimit, shared, storeSize, valuesSize}
+use Rattle.machine.specs.State.{State, blocked, ends, finished, left, next, nextOf, withRegs, withTables}
+use Rattle.machine.specs.Tables.{Tables, active, anyLive, atCondition, atEnd, atMutex, ended, first, lives, ownerOf, placeOf, queue, ready, saved, sent, unlocked, wakeAll}
+use Rattle.machine.proofs.Booked.{entry}
+use Rattle.machine.proofs.Changes.{Both, gives, head-below, leaves, nobody-at, saves, starts, stops, waits, wakes-all}
+use Rattle.machine.proofs.Every.{some-false, some-true}
+use Rattle.machine.proofs.Lists.{cases}
+use Rattle.machine.proofs.Queues.{first-at, first-nobody, first-waiter, saved-depth, saved-frame, saved-owners, saved-pc, saved-places, saved-sizes, sent-owner, sent-saved}
+
+-- the tables and the book, the registers' ranges, and the sizes of what is lent
+pub record Steady (size : ℕ) (s : State) (book : Book) : Type 0 where
+  pub both : Both size (s .regs .threads) (s .regs .mutexes) (s .regs .conditions) (s .regs .thread) (s .tables) book
+  pub frame : Frame (s .regs .pc) (s .regs .cells) (s .regs .fp)
+  pub free-least : 1 ≤ s .regs .free
+  pub free-most : s .regs .free ≤ shared size
+  pub stored : length (s .store) ≡ storeSize size
+  pub valued : length (s .values) ≡ valuesSize size
+
+-- and the machine's state
+pub record Right (size : ℕ) (s : State) (book : Book) : Type 0 where
+  pub steady : Steady size s book
+  pub mode : Mode size (s .regs .state) (s .regs .thread) (s .tables)
+  pub number : Fault (s .regs .state) (s .regs .fault)
+
+-- a machine whose state says running, with no fault: also while a thread has left and none runs yet
+pub record Marked (s : State) : Type 0 where
+  pub runs : s .regs .state ≡ running
+  pub sound : s .regs .fault ≡ 0
+
+-- with a running thread, such a machine is right
+pub active-right : (size : ℕ) (s : State) (book : Book) → Steady size s book → Marked s → s .regs .thread ≢ size → Right size s book
+active-right size s book y m some =
+    record {
+      steady = y;
+      mode =
+          record {
+            known = omega (arith, m .runs);
+            has-thread = λ e. some;
+            fault-thread = λ e. some;
+            stuck-none = λ e. absurd (omega (arith, e, m .runs));
+            stuck-unready = λ e. absurd (omega (arith, e, m .runs));
+            stuck-lives = λ e. absurd (omega (arith, e, m .runs));
+            halted-empty = λ e. absurd (omega (arith, e, m .runs));
+          };
+      number =
+          record {
+            least = λ e. absurd (omega (arith, e, m .runs));
+            most = λ e. absurd (omega (arith, e, m .runs));
+            none = λ e. m .sound;
+          };
+    }
+
+-- Next, where a thread has left
+pub next-right : (size : ℕ) (s : State) (book : Book) → Steady size s book → Marked s → s .regs .thread ≡ size → Right size (next size s) book
+unfolding next anyLive
+next-right size s book y m none = by-queue (queue (s .tables) ready) refl
+  where
+    after : Bool → State
+    after b = withRegs s (withState (s .regs) (cond b stuck halted) (nobody size))
+
+    still-steady : (b : Bool) → Steady size (after b) book
+    still-steady b =
+        record {
+          both = subst (λ (r : ℕ). Both size (s .regs .threads) (s .regs .mutexes) (s .regs .conditions) r (s .tables) book) none (y .both);
+          frame = y .frame;
+          free-least = y .free-least;
+          free-most = y .free-most;
+          stored = y .stored;
+          valued = y .valued;
+        }
+
+    by-life : queue (s .tables) ready ≡ [] → (b : Bool) → anyLive size (s .tables) ≡ b → Right size (after b) book
+    by-life e true l =
+        let who = some-true size (lives (s .tables)) l in
+        record {
+          steady = still-steady true;
+          mode =
+              record {
+                known = omega arith;
+                has-thread = λ k. absurd (omega (arith, k));
+                fault-thread = λ k. absurd (omega (arith, k));
+                stuck-none = λ k. refl;
+                stuck-unready = λ k t h. nobody-at (y .both) ready e t h;
+                stuck-lives = λ k. record { who = who .which; there = who .less; alive = ltb-true _ _ (who .passes) };
+                halted-empty = λ k. absurd (omega (arith, k));
+              };
+          number = record { least = λ k. absurd (omega (arith, k)); most = λ k. absurd (omega (arith, k)); none = λ k. m .sound };
+        }
+    by-life e false l =
+        record {
+          steady = still-steady false;
+          mode =
+              record {
+                known = omega arith;
+                has-thread = λ k. absurd (omega (arith, k));
+                fault-thread = λ k. absurd (omega (arith, k));
+                stuck-none = λ k. refl;
+                stuck-unready = λ k. absurd (omega (arith, k));
+                stuck-lives = λ k. absurd (omega (arith, k));
+                halted-empty = λ k h t below. ltb-false _ _ (some-false size (lives (s .tables)) l t below);
+              };
+          number = record { least = λ k. absurd (omega (arith, k)); most = λ k. absurd (omega (arith, k)); none = λ k. m .sound };
+        }
+
+    by-queue : (l : List ℕ) → queue (s .tables) ready ≡ l → Right size (nextOf size (first (s .tables) ready) s) book
+    by-queue [] e = rw (first-nobody (s .tables) ready e) (by-life e (anyLive size (s .tables)) refl)
+    by-queue (t ∷ rest) e =
+        let b = starts (y .both) t rest none e in
+        let below : t < size = head-below (y .both) ready t rest e in
+        let at : placeOf (s .tables) t ≡ ready = first-at (s .tables) ready t rest e in
+        rw (first-waiter (s .tables) ready t rest e)
+        (active-right size _ book
+        (record {
+          both = b;
+          frame = y .both .kempt .tidy .placed t below .kept (omega arith);
+          free-least = y .free-least;
+          free-most = y .free-most;
+          stored = y .stored;
+          valued = y .valued;
+        })
+        (record { runs = m .runs; sound = m .sound })
+        (λ k. omega arith))
+
+-- a running machine: a thread runs, and the state says so
+pub record Runs (size : ℕ) (s : State) (book : Book) : Type 0 where
+  pub steady : Steady size s book
+  pub marked : Marked s
+  pub some : s .regs .thread ≢ size
+
+module _ (size : ℕ) (s : State) (book : Book) (y : Runs size s book) where
+  kept : Tables
+  kept = saved (s .tables) (s .regs .thread) (s .regs .pc) (s .regs .cells) (s .regs .fp)
+
+  below : s .regs .thread < size
+  below = let t = y .steady .both .kempt .tidy in omega (arith, t .runner (y .some) .0, t .counts .threads-fit)
+
+  -- its registers are saved
+  saved-both : Both size (s .regs .threads) (s .regs .mutexes) (s .regs .conditions) (s .regs .thread) kept book
+  unfolding kept
+  saved-both = saves (y .steady .both) (s .regs .thread) (s .regs .pc) (s .regs .cells) (s .regs .fp) below (y .steady .frame)
+
+  saved-here : Frame (getD (kept .pcs) (s .regs .thread) 0) (getD (kept .depths) (s .regs .thread) 0) (getD (kept .frames) (s .regs .thread) 0)
+  unfolding kept
+  saved-here =
+      let z = y .steady .both .kempt .sizes in
+      rw (
+        saved-pc (s .tables) (s .regs .thread) (s .regs .pc) (s .regs .cells) (s .regs .fp) (rw (z .pcs) below),
+        saved-depth (s .tables) (s .regs .thread) (s .regs .pc) (s .regs .cells) (s .regs .fp) (rw (z .depths) below),
+        saved-frame (s .tables) (s .regs .thread) (s .regs .pc) (s .regs .cells) (s .regs .fp) (rw (z .frames) below),
+      )
+      (y .steady .frame)
+
+  same-places : kept .places ≡ s .tables .places
+  unfolding kept
+  same-places = saved-places (s .tables) (s .regs .thread) (s .regs .pc) (s .regs .cells) (s .regs .fp)
+
+  same-owners : kept .owners ≡ s .tables .owners
+  unfolding kept
+  same-owners = saved-owners (s .tables) (s .regs .thread) (s .regs .pc) (s .regs .cells) (s .regs .fp)
+
+  -- what stays of the machine when its thread has left
+  gone-on : (p : ℕ) (book′ : Book) → Both size (s .regs .threads) (s .regs .mutexes) (s .regs .conditions) size (sent kept (s .regs .thread) p) book′ → Steady size (left size s p) book′
+  unfolding left kept
+  gone-on p book′ b =
+      record {
+        both = b;
+        frame = y .steady .frame;
+        free-least = y .steady .free-least;
+        free-most = y .steady .free-most;
+        stored = y .steady .stored;
+        valued = y .steady .valued;
+      }
+
+  -- the thread leaves for a place that is no mutex's
+  pub left-steady : (p : ℕ) → ready ≤ p → ((m : ℕ) → m < mutexLimit size → p ≢ atMutex m) →
+      ((c : ℕ) → c < conditionLimit size → p ≡ atCondition size c → c < s .regs .conditions) →
+      ((u : ℕ) → p ≡ atEnd size u → (u < s .regs .threads) × (placeOf (s .tables) u ≢ ended)) →
+      Steady size (left size s p) book
+  left-steady p high no-mutex condition end =
+      gone-on p book (leaves saved-both p (y .some) high no-mutex condition (λ u e. (end u e .0, rw same-places (end u e .1))) saved-here)
+
+  pub left-marked : (p : ℕ) → Marked (left size s p)
+  unfolding left
+  left-marked p = record { runs = y .marked .runs; sound = y .marked .sound }
+
+  pub left-none : (p : ℕ) → left size s p .regs .thread ≡ size
+  unfolding left
+  left-none p = refl
+
+  -- "wait in its queue, then Next", for ready, a condition or a thread's end
+  pub blocked-right : (p : ℕ) → ready ≤ p → ((m : ℕ) → m < mutexLimit size → p ≢ atMutex m) →
+      ((c : ℕ) → c < conditionLimit size → p ≡ atCondition size c → c < s .regs .conditions) →
+      ((u : ℕ) → p ≡ atEnd size u → (u < s .regs .threads) × (placeOf (s .tables) u ≢ ended)) →
+      Right size (blocked size s p) book
+  blocked-right p high no-mutex condition end =
+      next-right size (left size s p) book (left-steady p high no-mutex condition end) (left-marked p) (left-none p)
+
+  -- for a mutex, which feeds the book
+  pub lock-blocked : (m : ℕ) → m < s .regs .mutexes → ownerOf (s .tables) m ≢ size →
+      Right size (blocked size s (atMutex m)) (fed book (entry (s .regs .thread) (event.locks m)))
+  lock-blocked m made held =
+      next-right size (left size s (atMutex m)) (fed book (entry (s .regs .thread) (event.locks m)))
+      (gone-on (atMutex m) (fed book (entry (s .regs .thread) (event.locks m))) (waits saved-both m (y .some) made (rw same-owners held) saved-here))
+      (left-marked (atMutex m))
+      (left-none (atMutex m))
+
+  -- the thread ends
+  pub ends-right : (v : ℤ) → Right size (ends size s v) (fed book (entry (s .regs .thread) event.ends))
+  unfolding finished
+  ends-right v =
+      let b = y .steady .both in
+      let woken = wakes-all b (atEnd size (s .regs .thread)) (omega arith) (λ m h e. omega (arith, e)) in
+      next-right size (finished size s v) (fed book (entry (s .regs .thread) event.ends))
+      (record {
+        both = stops (woken .0) (y .some) (woken .1);
+        frame = y .steady .frame;
+        free-least = y .steady .free-least;
+        free-most = y .steady .free-most;
+        stored = y .steady .stored;
+        valued = length-set (s .values) (s .regs .thread) v ∙ y .steady .valued;
+      })
+      (record { runs = y .marked .runs; sound = y .marked .sound })
+      refl
+
+  -- the thread waits for a condition and a mutex that is owned is unlocked, then Next
+  pub wait-right : (c m : ℕ) → c < s .regs .conditions → m < s .regs .mutexes → ownerOf (s .tables) m ≢ size →
+      Right size (next size (withTables (left size s (atCondition size c)) (unlocked size (left size s (atCondition size c) .tables) m)))
+      (fed book (entry (s .regs .thread) (event.unlocks m)))
+  unfolding left kept
+  wait-right c m made-c made-m held =
+      let limit : c < conditionLimit size = omega (arith, y .steady .both .kempt .tidy .counts .conditions-fit) in
+      let u =
+      left-steady (atCondition size c) (omega arith) (λ k h e. omega (arith, e))
+      (λ k h e. let same : c ≡ k = omega (arith, e) in rw (← same) made-c)
+      (λ k e. absurd (omega (arith, e, limit))) in
+      let owner = sent-owner kept (s .regs .thread) (atCondition size c) m in
+      let still-held : ownerOf (sent kept (s .regs .thread) (atCondition size c)) m ≢ size = rw (owner, same-owners) held in
+      next-right size _ (fed book (entry (s .regs .thread) (event.unlocks m)))
+      (record {
+        both = gives (u .both) m (s .regs .thread) made-m still-held;
+        frame = u .frame;
+        free-least = u .free-least;
+        free-most = u .free-most;
+        stored = u .stored;
+        valued = u .valued;
+      })
+      (record { runs = y .marked .runs; sound = y .marked .sound })
+      refl

@@ -1,0 +1,126 @@
+-- A step, and a run, keep the machine right and the book beside it. Assumes nothing.
+use Prim.Native.Nat.{ℕ, zero, suc, _+_, _<_, _≤_}
+use mathlib.Core.Path.{_≡_, refl, sym, ap, subst, _∙_}
+use mathlib.Core.Bool.{Bool, true, false, cond}
+use mathlib.Core.List.{List, [], _∷_, _++_}
+use mathlib.Core.Logic.{_≢_}
+use native.Mathlib.Omega.{arith}
+use lib.Dec.{eqb, ltb, lit≤}
+use lib.ListN.{length, getD}
+use borrow.Author.Tests.{eqb-true, ltb-true}
+use Rattle.machine.specs.Book.{Book, Entry, bookOf, eventOf, fed}
+use Rattle.machine.specs.Execution.{Outcome, done, exec, fault}
+use Rattle.machine.specs.Instructions.{Instruction, decoded}
+use Rattle.machine.specs.Plain.{Fault, Frame, Mode}
+use Rattle.machine.specs.Registers.{isRunning, running}
+use Rattle.machine.specs.State.{State}
+use Rattle.machine.specs.Step.{Ran, carried, entered, executed, faultedAt, joined, onward, run, step, still}
+use Rattle.machine.proofs.Booked.{entry}
+use Rattle.machine.proofs.Execution.{exec-right}
+use Rattle.machine.proofs.Lists.{cases}
+use Rattle.machine.proofs.Outcomes.{Ends}
+use Rattle.machine.proofs.Steady.{Marked, Right, Runs, Steady}
+use Rattle.machine.proofs.Targets.{Card}
+
+-- what a run must leave
+abbrev pub After : ℕ → Book → Ran → Type 0
+After size book ran = Right size (ran .state) (bookOf book (ran .trace))
+
+-- a fault marks the machine and changes nothing else
+pub fault-right : (size : ℕ) (s : State) (book : Book) → Right size s book → s .regs .thread ≢ size → (k : ℕ) → 20 ≤ k → k ≤ 30 → After size book (faultedAt s k)
+unfolding bookOf
+fault-right size s book r some k low high =
+    record {
+      steady =
+          record {
+            both = r .steady .both;
+            frame = r .steady .frame;
+            free-least = r .steady .free-least;
+            free-most = r .steady .free-most;
+            stored = r .steady .stored;
+            valued = r .steady .valued;
+          };
+      mode =
+          record {
+            known = omega arith;
+            has-thread = λ e. some;
+            fault-thread = λ e. some;
+            stuck-none = λ e. absurd (omega (arith, e));
+            stuck-unready = λ e. absurd (omega (arith, e));
+            stuck-lives = λ e. absurd (omega (arith, e));
+            halted-empty = λ e. absurd (omega (arith, e));
+          };
+      number = record { least = λ e. low; most = λ e. high; none = λ e. absurd (e refl) };
+    }
+
+-- a running machine has a running thread and no fault
+marked : (size : ℕ) (s : State) (book : Book) → Right size s book → isRunning (s .regs) ≡ true → Marked s
+marked size s book r e =
+    let runs : s .regs .state ≡ running = eqb-true _ _ e in
+    record { runs = runs; sound = r .number .none (λ k. omega (arith, k)) }
+
+some-thread : (size : ℕ) (s : State) (book : Book) → Right size s book → isRunning (s .regs) ≡ true → s .regs .thread ≢ size
+some-thread size s book r e = r .mode .has-thread (eqb-true _ _ e)
+
+module _ (size : ℕ) (words : List ℕ) (card : Card words) where
+  -- an instruction was carried out, or is a fault
+  outcome : (s : State) (book : Book) → Right size s book → s .regs .thread ≢ size → (i : Instruction) (o : Outcome) →
+      Ends (λ u. Right size u (fed book (entry (s .regs .thread) (eventOf size (onward s) i u)))) o → After size book (entered size s (onward s) i o)
+  unfolding bookOf
+  outcome s book r some i (done u) e = e
+  outcome s book r some i (fault k) e = fault-right size s book r some k (e .0) (e .1)
+
+  pub carried-right : (s : State) (book : Book) → Right size s book → isRunning (s .regs) ≡ true → After size book (carried size words s)
+  unfolding carried
+  carried-right s book r e =
+      cases (ltb (s .regs .pc) (length words))
+      (λ k.
+      let below : s .regs .pc < length words = ltb-true _ _ k in
+      let i : Instruction = decoded (getD words (s .regs .pc) 0) in
+      rw k
+      (outcome s book r (some-thread size s book r e) i (exec size (length words) (onward s) i)
+      (exec-right size (length words) (onward s) book
+      (record {
+        steady =
+            record {
+              both = r .steady .both;
+              frame =
+                  record {
+                    pc-fits = omega (arith, card .most);
+                    cells-fit = r .steady .frame .cells-fit;
+                    fp-least = r .steady .frame .fp-least;
+                    fp-most = r .steady .frame .fp-most;
+                  };
+              free-least = r .steady .free-least;
+              free-most = r .steady .free-most;
+              stored = r .steady .stored;
+              valued = r .steady .valued;
+            };
+        marked = let m = marked size s book r e in record { runs = m .runs; sound = m .sound };
+        some = some-thread size s book r e;
+      })
+      (card .most)
+      i
+      (card .targets (s .regs .pc) below))))
+      (λ k. rw k (fault-right size s book r (some-thread size s book r e) 20 (lit≤ tt) (lit≤ tt)))
+
+  pub step-right : (s : State) (book : Book) → Right size s book → After size book (step size words s)
+  unfolding step bookOf
+  step-right s book r = cases (isRunning (s .regs)) (λ e. rw e (carried-right s book r e)) (λ e. rw e r)
+
+-- the book after two traces
+pub book-append : (book : Book) (a b : List Entry) → bookOf book (a ++ b) ≡ bookOf (bookOf book a) b
+unfolding bookOf
+book-append book [] b = refl
+book-append book (e ∷ a) b = book-append (fed book e) a b
+
+pub run-right : (size : ℕ) (words : List ℕ) → Card words → (s : State) (book : Book) → Right size s book → (m : ℕ) → After size book (run size words s m)
+unfolding run bookOf
+run-right size words card s book r zero = r
+run-right size words card s book r (suc m) =
+    cases (isRunning (s .regs))
+    (λ e.
+    let one = carried-right size words card s book r e in
+    let rest = run-right size words card (carried size words s .state) (bookOf book (carried size words s .trace)) one m in
+    rw (e, book-append book (carried size words s .trace) (run size words (carried size words s .state) m .trace)) rest)
+    (λ e. rw e r)

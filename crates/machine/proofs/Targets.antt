@@ -1,0 +1,147 @@
+-- Every jump of an accepted card goes to an instruction of the card. Assumes nothing.
+use Prim.Native.Nat.{ℕ, zero, suc, _+_, _-_, _*_, _<_, _≤_}
+use mathlib.Core.Path.{_≡_, refl, sym, ap, subst, _∙_}
+use mathlib.Core.Bool.{Bool, true, false, cond, _&&_, _||_}
+use mathlib.Core.List.{List, [], _∷_}
+use mathlib.Core.Logic.{_≢_}
+use native.Mathlib.Omega.{arith}
+use lib.Dec.{eqb, ltb}
+use lib.IntN.{ℤ, pos, negsuc, natAbs, _-ℤ_}
+use lib.ListN.{length, getD, List·getD-eq-default}
+use lib.Signed.{leZ}
+use borrow.Author.Tests.{eq-eqb, ne-eqb, eqb-true, eqb-false, leb-true, le-ltb, ltb-true}
+use Rattle.instruction.specs.Rules.{allows, checkOf, isBetween, ruleOf}
+use Rattle.instruction.specs.Word.{opcodeOf, operandOf}
+use Rattle.instruction.specs.declared.Rule.the-variants as rule
+use Rattle.instruction.specs.declared.Verdict.{Verdict}
+use Rattle.instruction.specs.declared.Verdict.the-variants as verdict
+use Rattle.card.specs.Code.{firstBad, orElse, scanOf}
+use Rattle.card.specs.Image.{lastOf}
+use Rattle.card.specs.declared.scan.Scan.{Scan}
+use Rattle.card.specs.declared.scan.Scan.the-variants as scan
+use Rattle.machine.specs.Instructions.{Instruction, decoded, instructionOf, opcodes}
+use Rattle.machine.specs.Instructions as instr
+use Rattle.machine.specs.Lists.{every}
+use Rattle.machine.proofs.Every.{and-first, and-second, every-true, never, or-true}
+use Rattle.machine.proofs.Lists.{cases, less-or-not, same-or-not}
+
+-- where a jump goes, and 0 for any other instruction
+unfoldable pub targetOf : Instruction → ℕ
+targetOf (instr.jump a) = a
+targetOf (instr.jumpz a) = a
+targetOf instr.halt = 0
+targetOf (instr.loadc k) = 0
+targetOf instr.load = 0
+targetOf instr.store = 0
+targetOf (instr.loadr k) = 0
+targetOf (instr.storer k) = 0
+targetOf (instr.alloc k) = 0
+targetOf instr.pop = 0
+targetOf instr.dup = 0
+targetOf instr.add = 0
+targetOf instr.sub = 0
+targetOf instr.mul = 0
+targetOf instr.div = 0
+targetOf instr.«mod» = 0
+targetOf instr.neg = 0
+targetOf instr.eq = 0
+targetOf instr.neq = 0
+targetOf instr.less = 0
+targetOf instr.leq = 0
+targetOf instr.not = 0
+targetOf instr.mark = 0
+targetOf instr.call = 0
+targetOf instr.return = 0
+targetOf instr.new = 0
+targetOf instr.create = 0
+targetOf instr.yield = 0
+targetOf instr.exit = 0
+targetOf instr.join = 0
+targetOf instr.finalize = 0
+targetOf instr.newmutex = 0
+targetOf instr.lock = 0
+targetOf instr.unlock = 0
+targetOf instr.newcond = 0
+targetOf instr.wait = 0
+targetOf instr.signal = 0
+targetOf instr.broadcast = 0
+
+-- only opcodes 20 and 21 are jumps: a test over the table of opcodes
+plain-entry : ℤ → ℕ → Bool
+plain-entry k op = eqb op 20 || (eqb op 21 || eqb (targetOf (getD (opcodes k) op instr.halt)) 0)
+
+table : (k : ℤ) → every 38 (plain-entry k) ≡ true
+unfolding every plain-entry targetOf
+table k = refl
+
+past : (k : ℤ) (op : ℕ) → 38 ≤ op → getD (opcodes k) op instr.halt ≡ instr.halt
+past k op h = List·getD-eq-default (opcodes k) instr.halt h
+
+no-target : (op : ℕ) (k : ℤ) → op ≢ 20 → op ≢ 21 → targetOf (instructionOf op k) ≡ 0
+unfolding instructionOf plain-entry
+no-target op k a b =
+    less-or-not op 38
+    (λ h.
+    let row = every-true 38 (plain-entry k) (table k) op h in
+    eqb-true _ 0 (or-true (eqb op 21) _ (or-true (eqb op 20) _ row (ne-eqb op 20 a)) (ne-eqb op 21 b)))
+    (λ h. rw (past k op h) (unfold targetOf in refl))
+
+-- an operand from 0 to n − 1
+in-card : (n : ℕ) (k : ℤ) → 1 ≤ n → isBetween (pos 0) (lastOf n) k ≡ true → natAbs k < n
+in-card zero k h e = absurd (omega arith)
+in-card (suc n) (pos a) h e =
+    let last : lastOf (suc n) ≡ pos n = rw (le-ltb (suc n) 1 (omega arith)) (ap pos (omega arith)) in
+    let less : isBetween (pos 0) (pos n) (pos a) ≡ true = rw last at e in
+    omega (arith, leb-true a n (and-second (leZ (pos 0) (pos a)) (leZ (pos a) (pos n)) less))
+in-card (suc n) (negsuc a) h e = never e
+
+jump-20 : (k : ℤ) → targetOf (instructionOf 20 k) ≡ natAbs k
+unfolding targetOf instructionOf
+jump-20 k = refl
+
+jump-21 : (k : ℤ) → targetOf (instructionOf 21 k) ≡ natAbs k
+unfolding targetOf instructionOf
+jump-21 k = refl
+
+target-at : (n op : ℕ) (k : ℤ) → 1 ≤ n → allows (ruleOf op) (lastOf n) k ≡ true → targetOf (instructionOf op k) < n
+target-at n op k h e =
+    same-or-not op 20
+    (λ i.
+    let mine : isBetween (pos 0) (lastOf n) k ≡ true = rw i at e in
+    rw (i, jump-20 k) (in-card n k h mine))
+    (λ i.
+    same-or-not op 21
+    (λ j.
+    let mine : isBetween (pos 0) (lastOf n) k ≡ true = rw j at e in
+    rw (j, jump-21 k) (in-card n k h mine))
+    (λ j. omega (arith, no-target op k i j)))
+
+-- a fine instruction's operand is allowed
+allowed : (over fits : Bool) → cond over verdict.BadOpcode (cond fits verdict.Fine verdict.BadOperand) ≡ verdict.Fine → fits ≡ true
+allowed true fits e = absurd (let z : _≡_ {A = ℕ} 0 1 = cc in omega arith)
+allowed false true e = refl
+allowed false false e = absurd (let z : _≡_ {A = ℕ} 0 1 = cc in omega arith)
+
+pub target-in : (n w : ℕ) → 1 ≤ n → checkOf (lastOf n) w ≡ verdict.Fine → targetOf (decoded w) < n
+target-in n w h e =
+    target-at n (opcodeOf w) (operandOf w) h
+    (allowed (ltb 37 (opcodeOf w)) (allows (ruleOf (opcodeOf w)) (lastOf n) (operandOf w)) e)
+
+-- a search that found nothing found this word fine, and the rest
+good-word : (v : Verdict) (i : ℕ) (rest : Scan) → orElse (scanOf v i) rest ≡ scan.Fine → (v ≡ verdict.Fine) × (rest ≡ scan.Fine)
+good-word verdict.Fine i rest e = (refl, e)
+good-word verdict.BadOpcode i rest e = absurd (let z : _≡_ {A = ℕ} 0 1 = cc in omega arith)
+good-word verdict.BadOperand i rest e = absurd (let z : _≡_ {A = ℕ} 0 1 = cc in omega arith)
+
+-- every instruction of a card that was searched in vain is fine
+pub all-fine : (n i : ℕ) (ws : List ℕ) → firstBad (lastOf n) i ws ≡ scan.Fine → (k : ℕ) → k < length ws → checkOf (lastOf n) (getD ws k 0) ≡ verdict.Fine
+unfolding firstBad
+all-fine n i [] e k h = absurd (omega arith)
+all-fine n i (w ∷ ws) e zero h = good-word (checkOf (lastOf n) w) i (firstBad (lastOf n) (suc i) ws) e .0
+all-fine n i (w ∷ ws) e (suc k) h = all-fine n (suc i) ws (good-word (checkOf (lastOf n) w) i (firstBad (lastOf n) (suc i) ws) e .1) k (omega arith)
+
+-- the words of a card: so many, and every jump within them
+pub record Card (words : List ℕ) : Type 0 where
+  pub some : 1 ≤ length words
+  pub most : length words ≤ 4096
+  pub targets : (i : ℕ) → i < length words → targetOf (decoded (getD words i 0)) < length words

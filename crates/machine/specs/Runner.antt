@@ -1,0 +1,126 @@
+-- "The runner": the line that it prints, byte for byte, and the whole runner from its input to that line.
+use Prim.Native.Nat.{ℕ, zero, suc, _/_}
+use mathlib.Core.Bool.{Bool, true, false, cond}
+use mathlib.Core.List.{List, [], _∷_, _++_}
+use mathlib.Core.Path.{_≡_, refl}
+use lib.Dec.{eqb, ltb}
+use lib.IntN.{ℤ, pos, negsuc}
+use lib.ListN.{getD, replicate, take}
+use Rattle.io.specs.Digits.{digits}
+use Rattle.machine.specs.Calls.{Box, Called, countOf, runCall, setUp, stateOf}
+use Rattle.machine.specs.Registers.{zeros}
+use Rattle.machine.specs.Size.{storeSize, tablesSize, valuesSize}
+use Rattle.machine.specs.Tables.{ended, placeOf}
+use Rattle.machine.specs.declared.answers.Answer.{Answer}
+use Rattle.machine.specs.declared.answers.Answer.the-variants.{Halted, Running, Stuck, Faulted, Refused}
+
+-- the fewest decimal places that hold a number, at most k + 1 of them
+unfoldable pub places : ℕ → ℕ → ℕ
+places zero n = 1
+places (suc k) n =
+    let more = suc (places k (n / 10)) in
+    cond (ltb n 10) 1 more
+
+-- a number below 10^20 in decimal, with no zeros in front: the kit's digits, in the fewest places
+unfoldable pub decimal : ℕ → List ℕ
+decimal n = digits 10 (places 19 n) n
+
+-- a cell in decimal, with `-` in front of a negative one
+abbrev pub signed : ℤ → List ℕ
+signed (pos k) = decimal k
+signed (negsuc k) = 45 ∷ decimal (suc k)
+
+-- the least text, and the longest of a cell: `0` and `-2147483648`
+zero-text : signed (pos 0) ≡ 48 ∷ []
+unfolding decimal places
+zero-text = refl
+
+least-text : signed (negsuc 2147483647) ≡ 45 ∷ 50 ∷ 49 ∷ 52 ∷ 55 ∷ 52 ∷ 56 ∷ 51 ∷ 54 ∷ 52 ∷ 56 ∷ []
+unfolding decimal places
+least-text = refl
+
+-- a line: words with a space between them, and one line feed at the end
+unfoldable pub line : List ℕ → List (List ℕ) → List ℕ
+line word [] = word ++ 10 ∷ []
+line word (next ∷ rest) = word ++ 32 ∷ line next rest
+
+-- `halted`
+abbrev pub haltedWord : List ℕ
+haltedWord = 104 ∷ 97 ∷ 108 ∷ 116 ∷ 101 ∷ 100 ∷ []
+
+-- `stuck`
+abbrev pub stuckWord : List ℕ
+stuckWord = 115 ∷ 116 ∷ 117 ∷ 99 ∷ 107 ∷ []
+
+-- `fault`
+abbrev pub faultWord : List ℕ
+faultWord = 102 ∷ 97 ∷ 117 ∷ 108 ∷ 116 ∷ []
+
+-- `running`
+abbrev pub runningWord : List ℕ
+runningWord = 114 ∷ 117 ∷ 110 ∷ 110 ∷ 105 ∷ 110 ∷ 103 ∷ []
+
+-- `refused`
+abbrev pub refusedWord : List ℕ
+refusedWord = 114 ∷ 101 ∷ 102 ∷ 117 ∷ 115 ∷ 101 ∷ 100 ∷ []
+
+-- `-`
+abbrev pub noResult : List ℕ
+noResult = 45 ∷ []
+
+-- "thread 0's result, or `-`": there is one where thread 0 has ended
+abbrev pub resultOf : ℕ → Box → List ℕ
+resultOf size box =
+    cond (eqb (placeOf (stateOf size box .tables) 0) ended) (signed (getD (box .values) 0 (pos 0))) noResult
+
+-- "prints one line: `halted STEPS RESULT` .., `stuck STEPS`, `fault NO THREAD PC STEPS`, `running STEPS`, or `refused NO PLACE`"
+abbrev pub answerLine : ℕ → Answer → ℕ → Box → List ℕ
+answerLine size Halted steps box = line haltedWord (decimal steps ∷ resultOf size box ∷ [])
+answerLine size Stuck steps box = line stuckWord (decimal steps ∷ [])
+answerLine size (Faulted number place) steps box =
+    line faultWord (decimal number ∷ decimal (box .regs .thread) ∷ decimal place ∷ decimal steps ∷ [])
+answerLine size Running steps box = line runningWord (decimal steps ∷ [])
+answerLine size (Refused number place) steps box = line refusedWord (decimal number ∷ decimal place ∷ [])
+
+-- the line of a call's result
+unfoldable pub lineOf : ℕ → Called → List ℕ
+lineOf size called = answerLine size (called .answer) (countOf called) (called .box)
+
+-- "of a longer input only the first 16,394 bytes, judged as they are"
+abbrev pub inputLimit : ℕ
+inputLimit = 16394
+
+abbrev pub judgedPart : List ℕ → List ℕ
+judgedPart input = take inputLimit input
+
+-- "runs at most 1,000,000 steps"
+abbrev pub stepLimit : ℕ
+stepLimit = 1000000
+
+-- the box that the runner lends: every cell and number 0. Any other content of these sizes gives the same line, since setting up writes all of it.
+abbrev pub lent : ℕ → Box
+lent size =
+    record {
+      store = replicate (storeSize size) (pos 0);
+      tables = replicate (tablesSize size) 0;
+      values = replicate (valuesSize size) (pos 0);
+      regs = zeros;
+    }
+
+abbrev pub isRefused : Answer → Bool
+isRefused Halted = false
+isRefused Running = false
+isRefused Stuck = false
+isRefused (Faulted number place) = false
+isRefused (Refused number place) = true
+
+-- setting up and, where that is not refused, the run
+unfoldable pub runnerCall : ℕ → List ℕ → Called
+runnerCall size image =
+    let up = setUp size image (lent size) in
+    let ran = runCall size image stepLimit (up .box) in
+    cond (isRefused (up .answer)) up ran
+
+-- the whole runner, from what stands on its input to the line that it prints
+unfoldable pub runnerLine : ℕ → List ℕ → List ℕ
+runnerLine size input = lineOf size (runnerCall size (judgedPart input))
