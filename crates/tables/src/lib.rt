@@ -1,0 +1,162 @@
+// The lent tables: places, saved registers, owners and the line of threads. Only this crate knows their layout.
+// Inner: the machine's instructions call these functions on tables that are in order.
+ghost use mathlib.Core.Path.{_≡_};
+ghost use Prim.Native.Nat.{_+_, _*_, _<_, _≤_};
+ghost use lib.ListN.{getD, length};
+ghost use Rattle.machine.specs.Tables.{anyLive, first, owned, ownerOf, placeOf, saved, sent, tablesOf, wakeAll};
+ghost use Rattle.tables.specs.Good.{Dequeued, Good, Left, endMoved};
+use machine::First;
+use machine::Mutex;
+use machine::Thread;
+
+// The place of a thread that is ready.
+pub const READY: usize = 3;
+
+pub fn place(tables: &[usize], size: usize, t: Thread) -> usize
+    requires { ⌜ Good size (now tables) ⌝ }
+    requires { ⌜ t .0 < size ⌝ }
+    ensures { λ r. ⌜ r ≡ placeOf (tablesOf size (now (tables .entry))) (t .0) ⌝ }
+{
+    let at = t.0;
+    tables[at]
+}
+
+// The owner of a mutex, or `size` where it is free.
+pub fn owner(tables: &[usize], size: usize, m: Mutex) -> usize
+    requires { ⌜ Good size (now tables) ⌝ }
+    requires { ⌜ m .0 < 2 * size ⌝ }
+    ensures { λ r. ⌜ r ≡ ownerOf (tablesOf size (now (tables .entry))) (m .0) ⌝ }
+{
+    let at = m.0;
+    tables[4 * size + at]
+}
+
+pub fn saved_pc(tables: &[usize], size: usize, t: Thread) -> usize
+    requires { ⌜ Good size (now tables) ⌝ }
+    requires { ⌜ t .0 < size ⌝ }
+    ensures { λ r. ⌜ r ≡ getD (tablesOf size (now (tables .entry)) .pcs) (t .0) 0 ⌝ }
+{
+    let at = t.0;
+    tables[size + at]
+}
+
+pub fn saved_cells(tables: &[usize], size: usize, t: Thread) -> usize
+    requires { ⌜ Good size (now tables) ⌝ }
+    requires { ⌜ t .0 < size ⌝ }
+    ensures { λ r. ⌜ r ≡ getD (tablesOf size (now (tables .entry)) .depths) (t .0) 0 ⌝ }
+{
+    let at = t.0;
+    tables[2 * size + at]
+}
+
+pub fn saved_fp(tables: &[usize], size: usize, t: Thread) -> usize
+    requires { ⌜ Good size (now tables) ⌝ }
+    requires { ⌜ t .0 < size ⌝ }
+    ensures { λ r. ⌜ r ≡ getD (tablesOf size (now (tables .entry)) .frames) (t .0) 0 ⌝ }
+{
+    let at = t.0;
+    tables[3 * size + at]
+}
+
+pub fn save(tables: &mut [usize], size: usize, t: Thread, pc: usize, cells: usize, fp: usize)
+    requires { ⌜ Good size (now tables) ⌝ }
+    requires { ⌜ t .0 < size ⌝ }
+    ensures { λ _. ⌜ Left size (now (tables .exit)) (saved (tablesOf size (now (tables .entry))) (t .0) pc cells fp) ⌝ }
+{
+    let at = t.0;
+    tables[size + at] = pc;
+    tables[2 * size + at] = cells;
+    tables[3 * size + at] = fp;
+}
+
+// Gives a mutex an owner, or `size` for none.
+pub fn own(tables: &mut [usize], size: usize, m: Mutex, owner: usize)
+    requires { ⌜ Good size (now tables) ⌝ }
+    requires { ⌜ m .0 < 2 * size ⌝ }
+    ensures { λ _. ⌜ Left size (now (tables .exit)) (owned (tablesOf size (now (tables .entry))) (m .0) owner) ⌝ }
+{
+    let at = m.0;
+    tables[4 * size + at] = owner;
+}
+
+// Moves the first `t` from `from` on to the end of the slice.
+fn to_end(tables: &mut [usize], from: usize, t: usize)
+    requires { ⌜ from ≤ length (now tables) ⌝ }
+    ensures { λ _. ⌜ now (tables .exit) ≡ endMoved (now (tables .entry)) from t ⌝ }
+{
+    let mut i = from;
+    while i + 1 < tables.len() {
+        if tables[i] == t {
+            tables[i] = tables[i + 1];
+            tables[i + 1] = t;
+        }
+        i += 1;
+    }
+}
+
+// Sends a thread to a place, as the last to arrive there.
+pub fn send(tables: &mut [usize], size: usize, t: Thread, place: usize)
+    requires { ⌜ Good size (now tables) ⌝ }
+    requires { ⌜ t .0 < size ⌝ }
+    ensures { λ _. ⌜ Left size (now (tables .exit)) (sent (tablesOf size (now (tables .entry))) (t .0) place) ⌝ }
+{
+    let at = t.0;
+    tables[at] = place;
+    to_end(tables, 6 * size, at);
+}
+
+// The first of the line that is at a place.
+fn find(tables: &[usize], size: usize, place: usize) -> First
+    requires { ⌜ Good size (now tables) ⌝ }
+    ensures { λ r. ⌜ r ≡ first (tablesOf size (now (tables .entry))) place ⌝ }
+{
+    let mut i = 6 * size;
+    while i < tables.len() {
+        let t = tables[i];
+        if tables[t] == place {
+            return First::Waiter(Thread(t));
+        }
+        i += 1;
+    }
+    First::Nobody
+}
+
+// Takes the first waiter out of a queue and sends it to another place.
+pub fn dequeue(tables: &mut [usize], size: usize, from: usize, to: usize) -> First
+    requires { ⌜ Good size (now tables) ⌝ }
+    ensures { λ r. ⌜ Dequeued size (now (tables .entry)) from to r (now (tables .exit)) ⌝ }
+{
+    let found = find(tables, size, from);
+    let First::Waiter(t) = found else {
+        return First::Nobody;
+    };
+    send(tables, size, t, to);
+    First::Waiter(t)
+}
+
+pub fn any_live(tables: &[usize], size: usize) -> bool
+    requires { ⌜ Good size (now tables) ⌝ }
+    ensures { λ r. ⌜ r ≡ anyLive size (tablesOf size (now (tables .entry))) ⌝ }
+{
+    let mut t = 0;
+    while t < size {
+        if 1 < tables[t] {
+            return true;
+        }
+        t += 1;
+    }
+    false
+}
+
+// Sends all of a queue to the ready tail, in their order.
+pub fn wake_all(tables: &mut [usize], size: usize, from: usize)
+    requires { ⌜ Good size (now tables) ⌝ }
+    requires { ⌜ 3 < from ⌝ }
+    ensures { λ _. ⌜ Left size (now (tables .exit)) (wakeAll (tablesOf size (now (tables .entry))) from) ⌝ }
+{
+    loop {
+        let First::Waiter(_) = dequeue(tables, size, from, READY) else {
+            return;
+        };
+    }
+}
