@@ -18,3 +18,4 @@ pub mod Demand
 pub mod Runs
 pub mod Runner
 pub mod Sessions
+pub mod Equations

@@ -51,44 +51,44 @@ abbrev pub eqZ : ℤ → ℤ → Bool
 eqZ a b = leZ a b && leZ b a
 
 module _ (size n : ℕ) (s : State) where
-  abbrev depth : ℕ
+  abbrev pub depth : ℕ
   depth = s .regs .cells
 
   -- a value is pushed
-  abbrev pushed : ℤ → State
+  abbrev pub pushed : ℤ → State
   pushed v = withRegs (written size s depth v) (withCells (s .regs) (depth + 1))
 
   -- so many cells are popped
-  abbrev popped : ℕ → State
+  abbrev pub popped : ℕ → State
   popped k = withRegs s (withCells (s .regs) (depth - k))
 
   -- top is replaced
-  abbrev replaced : ℤ → State
+  abbrev pub replaced : ℤ → State
   replaced v = written size s (depth - 1) v
 
   -- top is dropped, and the new top replaced
-  abbrev combined : ℤ → State
+  abbrev pub combined : ℤ → State
   combined v = withRegs (written size s (depth - 2) v) (withCells (s .regs) (depth - 1))
 
   -- an operation on top and the cell below it
-  abbrev binary : (ℤ → ℤ → ℤ) → Outcome
+  abbrev pub binary : (ℤ → ℤ → ℤ) → Outcome
   binary f = needs 2 depth (fits (f (below size s) (top size s)) λ v. done (combined v))
 
   -- the same, of which top must not be 0
-  abbrev division : (ℤ → ℤ → ℤ) → Outcome
+  abbrev pub division : (ℤ → ℤ → ℤ) → Outcome
   division f = needs 2 depth (divides (top size s) (fits (f (below size s) (top size s)) λ v. done (combined v)))
 
   -- a comparison
-  abbrev compared : (ℤ → ℤ → Bool) → Outcome
+  abbrev pub compared : (ℤ → ℤ → Bool) → Outcome
   compared f = needs 2 depth (done (combined (truth (f (below size s) (top size s)))))
 
   -- cell FP + k: "0 ≤ FP+k ≤ SP"
-  abbrev frameCell : ℤ → (ℕ → Outcome) → Outcome
+  abbrev pub frameCell : ℤ → (ℕ → Outcome) → Outcome
   frameCell k f = within (pos (s .regs .fp) +ℤ k) depth 23 f
 
   -- "return needs FP ≤ SP and cell FP−1 either −1 or 2 to FP−1. At −1 the thread ends with cell FP−2. Else cell FP must be 0 to n−1:
   -- SP = FP−2, PC and FP are taken from the two cells."
-  abbrev returned : ℕ → ℕ → State
+  abbrev pub returned : ℕ → ℕ → State
   returned fp pc = withRegs s (withPc (withFp (withCells (s .regs) (s .regs .fp - 1)) fp) pc)
 
   unfoldable pub frame : ℤ → Outcome
@@ -97,7 +97,7 @@ module _ (size n : ℕ) (s : State) where
       (fault 26)
   frame (negsuc k) = cond (eqb k 0) (done (ends size s (cell size s (s .regs .fp - 2)))) (fault 26)
 
-  abbrev returning : Outcome
+  abbrev pub returning : Outcome
   returning = cond (ltb (s .regs .fp) depth) (frame (cell size s (s .regs .fp - 1))) (fault 26)
 
   -- "new: n in top becomes the first of n fresh shared cells, or 0 exactly if fewer than n are left"; 30: "new of fewer than 1"
@@ -110,7 +110,7 @@ module _ (size n : ℕ) (s : State) where
   fresh (negsuc k) = fault 30
 
   -- "both go, the new thread's number is pushed and it joins the ready tail, its PC the entry, or −1 exactly if 32 were made"
-  abbrev created : ℕ → State
+  abbrev pub created : ℕ → State
   created entry =
       record {
         store =
@@ -122,30 +122,30 @@ module _ (size n : ℕ) (s : State) where
             withMade (withCells (s .regs) (depth - 1)) (s .regs .threads + 1) (s .regs .mutexes) (s .regs .conditions);
       }
 
-  abbrev creating : Outcome
+  abbrev pub creating : Outcome
   creating =
       within (below size s) n 25
       λ entry. cond (ltb (s .regs .threads) size) (done (created entry)) (done (combined minusOne))
 
   -- "newmutex, newcond push the next number, or −1 exactly if 64 were made"
-  abbrev mutexMade : State
+  abbrev pub mutexMade : State
   mutexMade =
       withRegs (pushed (pos (s .regs .mutexes)))
       (withMade (withCells (s .regs) (depth + 1)) (s .regs .threads) (s .regs .mutexes + 1) (s .regs .conditions))
 
-  abbrev conditionMade : State
+  abbrev pub conditionMade : State
   conditionMade =
       withRegs (pushed (pos (s .regs .conditions)))
       (withMade (withCells (s .regs) (depth + 1)) (s .regs .threads) (s .regs .mutexes) (s .regs .conditions + 1))
 
   -- 27: "no such thread, mutex or condition"
-  abbrev aThread : ℤ → (ℕ → Outcome) → Outcome
+  abbrev pub aThread : ℤ → (ℕ → Outcome) → Outcome
   aThread v f = within v (s .regs .threads) 27 f
 
-  abbrev aMutex : ℤ → (ℕ → Outcome) → Outcome
+  abbrev pub aMutex : ℤ → (ℕ → Outcome) → Outcome
   aMutex v f = within v (s .regs .mutexes) 27 f
 
-  abbrev aCondition : ℤ → (ℕ → Outcome) → Outcome
+  abbrev pub aCondition : ℤ → (ℕ → Outcome) → Outcome
   aCondition v f = within v (s .regs .conditions) 27 f
 
   -- 28: "unlock or wait by another than the owner"
@@ -153,32 +153,32 @@ module _ (size n : ℕ) (s : State) where
   owns m o = cond (eqb (ownerOf (s .tables) m) (s .regs .thread)) o (fault 28)
 
   -- "join: if thread top has ended, go on; else wait in its queue, then Next. Top stays."
-  abbrev joining : ℕ → Outcome
+  abbrev pub joining : ℕ → Outcome
   joining t = cond (eqb (placeOf (s .tables) t) ended) (done s) (done (blocked size s (atEnd size t)))
 
   -- "finalize replaces it by that thread's result"; 29: "finalize of a thread not ended"
-  abbrev finalizing : ℕ → Outcome
+  abbrev pub finalizing : ℕ → Outcome
   finalizing t =
       cond (eqb (placeOf (s .tables) t) ended) (done (replaced (getD (s .values) t (pos 0)))) (fault 29)
 
   -- "lock pops; if free, take it; else wait, then Next"
-  abbrev locking : ℕ → Outcome
+  abbrev pub locking : ℕ → Outcome
   locking m =
       cond (eqb (ownerOf (s .tables) m) size)
       (done (withTables (popped 1) (owned (s .tables) m (s .regs .thread))))
       (done (blocked size (popped 1) (atMutex m)))
 
   -- "unlock pops; the queue gives the first waiter, or nobody"
-  abbrev unlocking : ℕ → Outcome
+  abbrev pub unlocking : ℕ → Outcome
   unlocking m = owns m (done (withTables (popped 1) (unlocked size (s .tables) m)))
 
   -- "The thread enters the condition's queue, the condition is popped, the mutex is unlocked as above and stays on the stack, then Next."
-  abbrev waited : ℕ → ℕ → State
+  abbrev pub waited : ℕ → ℕ → State
   waited c m =
       let away = left size (popped 1) (atCondition size c) in
       next size (withTables away (unlocked size (away .tables) m))
 
-  abbrev waiting : ℕ → ℕ → Outcome
+  abbrev pub waiting : ℕ → ℕ → Outcome
   waiting c m = owns m (done (waited c m))
 
   unfoldable pub exec : Instruction → Outcome

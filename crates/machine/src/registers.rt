@@ -1,7 +1,7 @@
 // The registers. They go in by value and come back advanced.
 ghost use mathlib.Core.Path.{_≡_};
 ghost use Prim.Native.Nat.{_≤_};
-ghost use Rattle.machine.specs.Registers.{advanced, stopped, switched};
+ghost use Rattle.machine.specs.Registers.{advanced, stopped, switched, withCells, withFp, withFree, withMade, withPc, withState};
 use crate::numbers::Thread;
 
 pub struct Registers {
@@ -50,6 +50,54 @@ impl Registers {
     {
         self.state = 3;
         self.fault = number;
+        self
+    }
+
+    // With another PC, number of cells, FP, next free cell.
+    pub fn with_pc(mut self, pc: usize) -> Self
+        ensures { λ r. ⌜ r ≡ withPc self pc ⌝ }
+    {
+        self.pc = pc;
+        self
+    }
+
+    pub fn with_cells(mut self, cells: usize) -> Self
+        ensures { λ r. ⌜ r ≡ withCells self cells ⌝ }
+    {
+        self.cells = cells;
+        self
+    }
+
+    pub fn with_fp(mut self, fp: usize) -> Self
+        ensures { λ r. ⌜ r ≡ withFp self fp ⌝ }
+    {
+        self.fp = fp;
+        self
+    }
+
+    pub fn with_free(mut self, free: usize) -> Self
+        ensures { λ r. ⌜ r ≡ withFree self free ⌝ }
+    {
+        self.free = free;
+        self
+    }
+
+    // With other counts of what was made.
+    pub fn with_made(mut self, threads: usize, mutexes: usize, conditions: usize) -> Self
+        ensures { λ r. ⌜ r ≡ withMade self threads mutexes conditions ⌝ }
+    {
+        self.threads = threads;
+        self.mutexes = mutexes;
+        self.conditions = conditions;
+        self
+    }
+
+    // In another state, with another running thread.
+    pub fn with_state(mut self, state: usize, thread: usize) -> Self
+        ensures { λ r. ⌜ r ≡ withState self state thread ⌝ }
+    {
+        self.state = state;
+        self.thread = thread;
         self
     }
 }

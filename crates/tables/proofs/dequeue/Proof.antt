@@ -1,34 +1,26 @@
+-- `tables::dequeue` meets its contract. Assumes nothing.
+use Prim.Native.Nat.{ℕ}
 use mathlib.Core.Path.{_≡_, refl, sym, ap, _∙_}
 use native.Mathlib.Omega.{arith}
+use borrow.Author.Needs.{needs}
 use denote.Ref.{now}
 use lib.ListN.{length, length-set}
-use Prim.Native.Nat.{ℕ}
 use Rattle.tables.proofs.Line.{found-real}
-use borrow.Author.Needs.{needs}
 use Rattle.tables.proofs.dequeue.Statement.{statement}
 use Rattle.tables.proofs.dequeue.Tie as tie
-use Rattle.tables.proofs.dequeue.Reads as reads
-use Rattle.tables.proofs.dequeue.Lts as lts
-use Rattle.tables.proofs.find.Reads as find-reads
-use Rattle.tables.proofs.send.Reads as send-reads
 
--- src/lib.rt:127:9
 find-requires : tie.Need-find-requires
 find-requires c κs = search needs
 
--- src/lib.rt:128:23
 enum-known-found : tie.Need-enum-known-found
 enum-known-found c = search needs
 
--- src/lib.rt:129:9
 enum-told : tie.Need-enum-told
 enum-told c = search needs
 
--- src/lib.rt:129:9
 same-length : tie.Need-same-length
 same-length c = search needs
 
--- src/lib.rt:129:9
 returns : tie.Need-returns
 returns c =
     let nobody = c .enum-told .given .1 in
@@ -38,15 +30,12 @@ returns c =
       real = λ t e. absurd (let z : _≡_ {A = ℕ} 0 1 = cc in omega arith);
     }
 
--- src/lib.rt:131:5
 send-requires : tie.Need-send-requires
 send-requires c κs = (c .before .before .before .before .before .before .before .pre, found-real _ _ (c .before .before .before .before .before .before .before .pre) _ _ (sym (c .before .before .before .before .find .ensures) ∙ c .before .before .found .given .1))
 
--- src/lib.rt:123:1
 same-length-2 : tie.Need-same-length-2
 same-length-2 c = search needs
 
--- src/lib.rt:123:1
 returns-2 : tie.Need-returns-2
 returns-2 c =
     let waiter = c .before .before .before .before .before .found .given .1 in

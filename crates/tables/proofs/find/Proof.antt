@@ -1,17 +1,15 @@
+-- `tables::find` meets its contract. Assumes nothing.
+use Prim.Native.Nat.{_*_, _-_, _≤_}
 use mathlib.Core.Path.{_≡_, refl, sym, ap, _∙_}
 use native.Mathlib.Omega.{arith}
 use borrow.Author.Needs.{needs}
 use denote.Ref.{now}
-use lib.ListN.{length, getD, set, length-set}
-use Prim.Native.Nat.{_*_, _-_, _≤_}
-use lib.ListN.{drop}
+use lib.ListN.{length, getD, set, length-set, drop}
 use Rattle.machine.specs.Lists.{keep}
 use Rattle.machine.specs.Tables.{first, firstOf, isAt, tablesOf}
 use Rattle.tables.proofs.Line.{member, search-end, search-found, search-on, search-start}
 use Rattle.tables.proofs.find.Statement.{statement}
 use Rattle.tables.proofs.find.Tie as tie
-use Rattle.tables.proofs.find.Reads as reads
-use Rattle.tables.proofs.find.Lts as lts
 
 abbrev Inv-loop : tie.InvT-loop
 Inv-loop tables size place i₀ i = (6 * size ≤ i) × (first (tablesOf size tables) place ≡ firstOf (keep (isAt (tablesOf size tables) place) (drop i tables)))
@@ -19,47 +17,36 @@ Inv-loop tables size place i₀ i = (6 * size ≤ i) × (first (tablesOf size ta
 abbrev μ-loop : tie.MeasureT-loop
 μ-loop tables size place i₀ i = length tables - i
 
--- src/lib.rt:111:17
 mul-i : tie.Need-mul-i Inv-loop μ-loop
 mul-i c = search needs
 
--- src/lib.rt:112:5
 loop-holds : tie.Need-loop-holds Inv-loop μ-loop
 loop-holds c = (search needs, search-start _ _ (c .pre) _)
 
--- src/lib.rt:113:17
 mul-t : tie.Need-mul-t Inv-loop μ-loop
 mul-t c = search needs
 
--- src/lib.rt:113:17
 shared-slice-read-t : tie.Need-shared-slice-read-t Inv-loop μ-loop
 shared-slice-read-t c = search needs
 
--- src/lib.rt:114:12
 mul-if1 : tie.Need-mul-if1 Inv-loop μ-loop
 mul-if1 c = let m = member _ _ (c .before .before .before .pre) (c .before .before .loop .i) (c .before .before .loop .inv .0) (c .before .loop-test .taken) in omega (arith, c .before .before .before .pre .long, c .before .before .before .pre .small, m)
 
--- src/lib.rt:114:12
 shared-slice-read-if1 : tie.Need-shared-slice-read-if1 Inv-loop μ-loop
 shared-slice-read-if1 c = let m = member _ _ (c .before .before .before .before .pre) (c .before .before .before .loop .i) (c .before .before .before .loop .inv .0) (c .before .before .loop-test .taken) in omega (arith, c .before .before .before .before .pre .long, m)
 
--- src/lib.rt:115:13
 returns : tie.Need-returns Inv-loop μ-loop
 returns c = sym (c .before .before .before .before .loop .inv .1 ∙ search-found _ _ (c .before .before .before .before .before .pre) _ _ (c .before .before .before .before .loop .inv .0) (c .before .before .before .loop-test .taken) (c .if1 .taken))
 
--- src/lib.rt:117:9
 add-i : tie.Need-add-i Inv-loop μ-loop
 add-i c = search needs
 
--- src/lib.rt:112:5
 loop-less : tie.Need-loop-less Inv-loop μ-loop
 loop-less c = search needs
 
--- src/lib.rt:112:5
 loop-again : tie.Need-loop-again Inv-loop μ-loop
 loop-again c = (omega arith, c .before .before .before .before .loop .inv .1 ∙ search-on _ _ (c .before .before .before .before .before .pre) _ _ (c .before .before .before .before .loop .inv .0) (c .before .before .before .loop-test .taken) (c .if1 .left))
 
--- src/lib.rt:107:1
 returns-2 : tie.Need-returns-2 Inv-loop μ-loop
 returns-2 c = sym (c .before .loop .inv .1 ∙ search-end _ _ (c .before .before .pre) _ _ (c .loop-test .left))
 

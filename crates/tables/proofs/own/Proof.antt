@@ -1,35 +1,28 @@
+-- `tables::own` meets its contract. Assumes nothing.
+use borrow.Author.Needs.{needs}
 use denote.Ref.{now}
 use lib.ListN.{length-set}
-use Rattle.machine.proofs.Queues.{owned-line}
 use Rattle.machine.specs.Tables.{tablesOf}
+use Rattle.machine.proofs.Queues.{owned-line}
 use Rattle.tables.proofs.Regions.{still-good, store-owner}
-use borrow.Author.Needs.{needs}
 use Rattle.tables.proofs.own.Statement.{statement}
 use Rattle.tables.proofs.own.Tie as tie
-use Rattle.tables.proofs.own.Reads as reads
-use Rattle.tables.proofs.own.Lts as lts
 
--- src/lib.rt:77:12
 mul-tables : tie.Need-mul-tables
 mul-tables c = search needs
 
--- src/lib.rt:77:12
 add-tables : tie.Need-add-tables
 add-tables c = search needs
 
--- src/lib.rt:77:5
 mul-tables-2 : tie.Need-mul-tables-2
 mul-tables-2 c = search needs
 
--- src/lib.rt:77:5
 slice-write-tables : tie.Need-slice-write-tables
 slice-write-tables c = search needs
 
--- src/lib.rt:71:1
 same-length : tie.Need-same-length
 same-length c = search needs
 
--- src/lib.rt:71:1
 returns : tie.Need-returns
 returns c =
     let a = c .args in

@@ -1,64 +1,50 @@
+-- `tables::save` meets its contract. Assumes nothing.
 use native.Mathlib.Omega.{arith}
+use borrow.Author.Needs.{needs}
 use denote.Ref.{now}
 use lib.ListN.{length-set}
-use Rattle.machine.proofs.Queues.{saved-line}
 use Rattle.machine.specs.Tables.{tablesOf}
+use Rattle.machine.proofs.Queues.{saved-line}
 use Rattle.tables.proofs.Regions.{still-good, store-saved}
-use borrow.Author.Needs.{needs}
 use Rattle.tables.proofs.save.Statement.{statement}
 use Rattle.tables.proofs.save.Tie as tie
-use Rattle.tables.proofs.save.Reads as reads
-use Rattle.tables.proofs.save.Lts as lts
 
--- src/lib.rt:65:12
 add-tables : tie.Need-add-tables
 add-tables c = search needs
 
--- src/lib.rt:65:5
 mul-tables : tie.Need-mul-tables
 mul-tables c = search needs
 
--- src/lib.rt:65:5
 slice-write-tables : tie.Need-slice-write-tables
 slice-write-tables c = search needs
 
--- src/lib.rt:66:12
 mul-tables-2 : tie.Need-mul-tables-2
 mul-tables-2 c = search needs
 
--- src/lib.rt:66:12
 add-tables-2 : tie.Need-add-tables-2
 add-tables-2 c = search needs
 
--- src/lib.rt:66:5
 mul-tables-3 : tie.Need-mul-tables-3
 mul-tables-3 c = search needs
 
--- src/lib.rt:66:5
 slice-write-tables-2 : tie.Need-slice-write-tables-2
 slice-write-tables-2 c = simp length-set (omega arith)
 
--- src/lib.rt:67:12
 mul-tables-4 : tie.Need-mul-tables-4
 mul-tables-4 c = search needs
 
--- src/lib.rt:67:12
 add-tables-3 : tie.Need-add-tables-3
 add-tables-3 c = search needs
 
--- src/lib.rt:67:5
 mul-tables-5 : tie.Need-mul-tables-5
 mul-tables-5 c = search needs
 
--- src/lib.rt:67:5
 slice-write-tables-3 : tie.Need-slice-write-tables-3
 slice-write-tables-3 c = simp length-set (omega arith)
 
--- src/lib.rt:59:1
 same-length : tie.Need-same-length
 same-length c = search needs
 
--- src/lib.rt:59:1
 returns : tie.Need-returns
 returns c =
     let a = c .args in

@@ -1,16 +1,15 @@
+-- `tables::to_end` meets its contract. Assumes nothing.
+use Prim.Native.Nat.{_-_, _≤_}
 use mathlib.Core.Path.{_≡_, refl, sym, ap, _∙_}
+use mathlib.Core.Logic.{⊎-elim}
 use native.Mathlib.Omega.{arith}
 use borrow.Author.Needs.{needs}
 use denote.Ref.{now}
 use lib.ListN.{length, getD, set, length-set}
-use Prim.Native.Nat.{_-_, _≤_}
-use mathlib.Core.Logic.{⊎-elim}
 use Rattle.tables.specs.Good.{endMoved}
 use Rattle.tables.proofs.Line.{Turned, at-end, turn-passed, turn-swapped}
 use Rattle.tables.proofs.to_end.Statement.{statement}
 use Rattle.tables.proofs.to_end.Tie as tie
-use Rattle.tables.proofs.to_end.Reads as reads
-use Rattle.tables.proofs.to_end.Lts as lts
 
 abbrev Inv-loop : tie.InvT-loop
 Inv-loop tables₀ from t i₀ tables i = (length tables ≡ length tables₀) × (i ≤ length tables) × (endMoved tables₀ from t ≡ endMoved tables i t)
@@ -18,63 +17,48 @@ Inv-loop tables₀ from t i₀ tables i = (length tables ≡ length tables₀) �
 abbrev μ-loop : tie.MeasureT-loop
 μ-loop tables₀ from t i₀ tables i = length tables₀ - i
 
--- src/lib.rt:86:5
 loop-holds : tie.Need-loop-holds Inv-loop μ-loop
 loop-holds c = (refl, c .pre, refl)
 
--- src/lib.rt:86:11
 add-loop : tie.Need-add-loop Inv-loop μ-loop
 add-loop c = search needs
 
--- src/lib.rt:87:12
 mul-if1 : tie.Need-mul-if1 Inv-loop μ-loop
 mul-if1 c = search needs
 
--- src/lib.rt:87:12
 slice-read-if1 : tie.Need-slice-read-if1 Inv-loop μ-loop
 slice-read-if1 c = search needs
 
--- src/lib.rt:88:32
 add-tables : tie.Need-add-tables Inv-loop μ-loop
 add-tables c = search needs
 
--- src/lib.rt:88:25
 mul-tables : tie.Need-mul-tables Inv-loop μ-loop
 mul-tables c = search needs
 
--- src/lib.rt:88:25
 slice-read-tables : tie.Need-slice-read-tables Inv-loop μ-loop
 slice-read-tables c = search needs
 
--- src/lib.rt:88:13
 mul-tables-2 : tie.Need-mul-tables-2 Inv-loop μ-loop
 mul-tables-2 c = search needs
 
--- src/lib.rt:88:13
 slice-write-tables : tie.Need-slice-write-tables Inv-loop μ-loop
 slice-write-tables c = search needs
 
--- src/lib.rt:89:20
 add-tables-2 : tie.Need-add-tables-2 Inv-loop μ-loop
 add-tables-2 c = search needs
 
--- src/lib.rt:89:13
 mul-tables-3 : tie.Need-mul-tables-3 Inv-loop μ-loop
 mul-tables-3 c = search needs
 
--- src/lib.rt:89:13
 slice-write-tables-2 : tie.Need-slice-write-tables-2 Inv-loop μ-loop
 slice-write-tables-2 c = simp length-set (omega arith)
 
--- src/lib.rt:91:9
 add-i : tie.Need-add-i Inv-loop μ-loop
 add-i c = search needs
 
--- src/lib.rt:86:5
 loop-less : tie.Need-loop-less Inv-loop μ-loop
 loop-less c = search needs
 
--- src/lib.rt:86:5
 loop-again : tie.Need-loop-again Inv-loop μ-loop
 loop-again c =
     let l = c .before .before .before .loop .tables in
@@ -85,11 +69,9 @@ loop-again c =
     (c .if1 .came) in
     (turned .long ∙ c .before .before .before .loop .inv .0, omega (arith, turned .long, c .before .before .loop-test .taken), c .before .before .before .loop .inv .2 ∙ turned .moves)
 
--- src/lib.rt:81:1
 same-length : tie.Need-same-length Inv-loop μ-loop
 same-length c = c .before .loop .inv .0
 
--- src/lib.rt:81:1
 returns : tie.Need-returns Inv-loop μ-loop
 returns c = sym (c .before .loop .inv .2 ∙ at-end _ _ _ (c .loop-test .left))
 

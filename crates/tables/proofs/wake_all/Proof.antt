@@ -1,16 +1,14 @@
+-- `tables::wake_all` meets its contract. Assumes nothing.
 use mathlib.Core.Path.{_≡_, refl, sym, ap, _∙_}
 use native.Mathlib.Omega.{arith}
+use borrow.Author.Needs.{needs}
 use denote.Ref.{now}
 use lib.ListN.{length, length-set}
-use borrow.Author.Needs.{needs}
 use Rattle.machine.specs.Tables.{queue, tablesOf, wakeAll}
 use Rattle.tables.specs.Good.{Good}
 use Rattle.tables.proofs.Waking.{all-woken, woke}
 use Rattle.tables.proofs.wake_all.Statement.{statement}
 use Rattle.tables.proofs.wake_all.Tie as tie
-use Rattle.tables.proofs.wake_all.Reads as reads
-use Rattle.tables.proofs.wake_all.Lts as lts
-use Rattle.tables.proofs.dequeue.Reads as dequeue-reads
 
 abbrev Inv-loop : tie.InvT-loop
 Inv-loop tables₀ size from tables = Good size tables × (length tables ≡ length tables₀) × (wakeAll (tablesOf size tables₀) from ≡ wakeAll (tablesOf size tables) from)
@@ -18,22 +16,18 @@ Inv-loop tables₀ size from tables = Good size tables × (length tables ≡ len
 abbrev μ-loop : tie.MeasureT-loop
 μ-loop tables₀ size from tables = length (queue (tablesOf size tables) from)
 
--- src/lib.rt:155:5
 loop-holds : tie.Need-loop-holds Inv-loop μ-loop
 loop-holds c = (c .before .pre .0, refl, refl)
 
--- src/lib.rt:156:32
 dequeue-requires : tie.Need-dequeue-requires Inv-loop μ-loop
 dequeue-requires c κs = c .before .loop .inv .0
 
 enum-told : tie.Need-enum-told Inv-loop μ-loop
 enum-told c = search needs
 
--- src/lib.rt:155:5
 loop-less : tie.Need-loop-less Inv-loop μ-loop
 loop-less c = woke _ _ _ _ (c .before .before .before .before .before .before .before .before .pre .1) (c .before .before .before .before .before .before .loop .inv .0) _ _ (c .before .before .before .before .dequeue .ensures) (c .enum-told .given .1) .fewer
 
--- src/lib.rt:155:5
 loop-again : tie.Need-loop-again Inv-loop μ-loop
 loop-again c = (
   c .before .before .before .before .dequeue .ensures .left .good,
@@ -41,15 +35,12 @@ loop-again c = (
   c .before .before .before .before .before .before .loop .inv .2 ∙ woke _ _ _ _ (c .before .before .before .before .before .before .before .before .pre .1) (c .before .before .before .before .before .before .loop .inv .0) _ _ (c .before .before .before .before .dequeue .ensures) (c .enum-told .given .1) .same,
 )
 
--- src/lib.rt:157:13
 enum-told-2 : tie.Need-enum-told-2 Inv-loop μ-loop
 enum-told-2 c = search needs
 
--- src/lib.rt:157:13
 same-length : tie.Need-same-length Inv-loop μ-loop
 same-length c = c .before .before .before .before .dequeue .kept .0 ∙ c .before .before .before .before .before .before .loop .inv .1
 
--- src/lib.rt:157:13
 returns : tie.Need-returns Inv-loop μ-loop
 returns c =
     let d = all-woken _ _ _ _ (c .before .before .before .before .before .before .before .before .pre .1) (c .before .before .before .before .before .before .loop .inv .0) _ (c .before .before .before .before .dequeue .ensures) (c .enum-told2 .given .1) in
