@@ -27,21 +27,21 @@ use Rattle.machine.proofs.Every.{and-first, and-second}
 use Rattle.machine.proofs.Moves.{counts-grow}
 use Rattle.machine.proofs.Outcomes.{Ends, ends-cond, ends-divides, ends-fits, ends-needs, ends-rooms, ends-within}
 use Rattle.machine.proofs.Queues.{saved-depth, saved-frame, saved-pc}
-use Rattle.machine.proofs.Steady.{Marked, Right, Runs, Steady, active-right, blocked-right, ends-right, lock-blocked, wait-right}
+use Rattle.machine.proofs.Steady.{Landed, Marked, Right, Runs, Steady, active-landed, blocked-right, ends-right, lock-blocked, wait-right}
 use Rattle.machine.proofs.Targets.{targetOf}
 
 module _ (size n : ℕ) (s : State) (book : Book) (y : Runs size s book) (short : n ≤ 4096) where
   -- what an instruction must leave
   abbrev Leaves : Instruction → State → Type 0
-  Leaves i u = Right size u (fed book (entry (s .regs .thread) (eventOf size s i u)))
+  Leaves i u = Landed size u (fed book (entry (s .regs .thread) (eventOf size s i u)))
 
   -- an instruction that touches only the store, PC, the stack, FP and the next free cell
   abbrev local : List ℤ → ℕ → ℕ → ℕ → ℕ → State
   local store pc cells fp free = withRegs (withStore s store) (withFree (withFp (withCells (withPc (s .regs) pc) cells) fp) free)
 
-  stays : (store : List ℤ) (pc cells fp free : ℕ) → length store ≡ length (s .store) → Frame pc cells fp → 1 ≤ free → free ≤ shared size → Right size (local store pc cells fp free) book
+  stays : (store : List ℤ) (pc cells fp free : ℕ) → length store ≡ length (s .store) → Frame pc cells fp → 1 ≤ free → free ≤ shared size → Landed size (local store pc cells fp free) book
   stays store pc cells fp free same f least most =
-      active-right size _ book
+      active-landed size _ book
       (record {
         both = y .steady .both;
         frame = f;
@@ -54,7 +54,7 @@ module _ (size n : ℕ) (s : State) (book : Book) (y : Runs size s book) (short 
       (y .some)
 
   -- the same with the next free cell as it was
-  keeps : (store : List ℤ) (pc cells fp : ℕ) → length store ≡ length (s .store) → Frame pc cells fp → Right size (local store pc cells fp (s .regs .free)) book
+  keeps : (store : List ℤ) (pc cells fp : ℕ) → length store ≡ length (s .store) → Frame pc cells fp → Landed size (local store pc cells fp (s .regs .free)) book
   keeps store pc cells fp same f = stays store pc cells fp (s .regs .free) same f (y .steady .free-least) (y .steady .free-most)
 
   -- another number of cells
@@ -68,16 +68,16 @@ module _ (size n : ℕ) (s : State) (book : Book) (y : Runs size s book) (short 
   one-set a v = length-set (s .store) a v
 
   -- a push, a pop, a new top, and a new top after a pop
-  push : (v : ℤ) → s .regs .cells + 1 ≤ 128 → Right size (local (set (s .store) (stackAt size (s .regs .thread) (s .regs .cells)) v) (s .regs .pc) (s .regs .cells + 1) (s .regs .fp) (s .regs .free)) book
+  push : (v : ℤ) → s .regs .cells + 1 ≤ 128 → Landed size (local (set (s .store) (stackAt size (s .regs .thread) (s .regs .cells)) v) (s .regs .pc) (s .regs .cells + 1) (s .regs .fp) (s .regs .free)) book
   push v h = keeps _ _ _ _ (one-set _ v) (resized _ h)
 
-  pop : (k : ℕ) → Right size (local (s .store) (s .regs .pc) (s .regs .cells - k) (s .regs .fp) (s .regs .free)) book
+  pop : (k : ℕ) → Landed size (local (s .store) (s .regs .pc) (s .regs .cells - k) (s .regs .fp) (s .regs .free)) book
   pop k = keeps _ _ _ _ refl (resized _ (omega (arith, room)))
 
-  poke : (i : ℕ) (v : ℤ) → Right size (local (set (s .store) (stackAt size (s .regs .thread) i) v) (s .regs .pc) (s .regs .cells) (s .regs .fp) (s .regs .free)) book
+  poke : (i : ℕ) (v : ℤ) → Landed size (local (set (s .store) (stackAt size (s .regs .thread) i) v) (s .regs .pc) (s .regs .cells) (s .regs .fp) (s .regs .free)) book
   poke i v = keeps _ _ _ _ (one-set _ v) (resized _ room)
 
-  combine : (v : ℤ) → Right size (local (set (s .store) (stackAt size (s .regs .thread) (s .regs .cells - 2)) v) (s .regs .pc) (s .regs .cells - 1) (s .regs .fp) (s .regs .free)) book
+  combine : (v : ℤ) → Landed size (local (set (s .store) (stackAt size (s .regs .thread) (s .regs .cells - 2)) v) (s .regs .pc) (s .regs .cells - 1) (s .regs .fp) (s .regs .free)) book
   combine v = keeps _ _ _ _ (one-set _ v) (resized _ (omega (arith, room)))
 
   -- ---- instructions on cells
@@ -216,26 +216,30 @@ module _ (size n : ℕ) (s : State) (book : Book) (y : Runs size s book) (short 
   unfolding exec eventOf fed
   exec-halt =
       record {
-        steady =
+        sound = y .marked .sound;
+        right =
             record {
-              both = y .steady .both;
-              frame = y .steady .frame;
-              free-least = y .steady .free-least;
-              free-most = y .steady .free-most;
-              stored = y .steady .stored;
-              valued = y .steady .valued;
+              steady =
+                  record {
+                    both = y .steady .both;
+                    frame = y .steady .frame;
+                    free-least = y .steady .free-least;
+                    free-most = y .steady .free-most;
+                    stored = y .steady .stored;
+                    valued = y .steady .valued;
+                  };
+              mode =
+                  record {
+                    known = omega arith;
+                    has-thread = λ e. y .some;
+                    fault-thread = λ e. y .some;
+                    stuck-none = λ e. absurd (omega (arith, e));
+                    stuck-unready = λ e. absurd (omega (arith, e));
+                    stuck-lives = λ e. absurd (omega (arith, e));
+                    halted-empty = λ e none. absurd (y .some none);
+                  };
+              number = record { least = λ e. absurd (omega (arith, e)); most = λ e. absurd (omega (arith, e)); none = λ e. y .marked .sound };
             };
-        mode =
-            record {
-              known = omega arith;
-              has-thread = λ e. y .some;
-              fault-thread = λ e. y .some;
-              stuck-none = λ e. absurd (omega (arith, e));
-              stuck-unready = λ e. absurd (omega (arith, e));
-              stuck-lives = λ e. absurd (omega (arith, e));
-              halted-empty = λ e none. absurd (y .some none);
-            };
-        number = record { least = λ e. absurd (omega (arith, e)); most = λ e. absurd (omega (arith, e)); none = λ e. y .marked .sound };
       }
 
   exec-exit : Done instr.exit
@@ -291,7 +295,7 @@ module _ (size n : ℕ) (s : State) (book : Book) (y : Runs size s book) (short 
       ends-within _ _ _ _ _ (lit≤ tt) (lit≤ tt)
       (λ t e made.
       ends-cond _ (eqb (placeOf (s .tables) t) ended) _ _
-      (λ k. active-right size s book (y .steady) (y .marked) (y .some))
+      (λ k. active-landed size s book (y .steady) (y .marked) (y .some))
       (λ k.
       blocked-right size s book y (atEnd size t) (omega arith) (no-mutex-e t) (λ c hc i. absurd (omega (arith, i, hc)))
       (λ u i. let same : t ≡ u = omega (arith, i) in (rw (← same) made, rw (← same) (eqb-false _ _ k))))))
@@ -307,9 +311,9 @@ module _ (size n : ℕ) (s : State) (book : Book) (y : Runs size s book) (short 
   -- other tables, a book that was fed, and other counts, with the thread still running
   changed : (store : List ℤ) (tables : Tables) (cells threads mutexes conditions : ℕ) (book′ : Book) → length store ≡ length (s .store) → cells ≤ 128 →
       Both size threads mutexes conditions (s .regs .thread) tables book′ →
-      Right size (record { store = store; tables = tables; values = s .values; regs = withMade (withCells (s .regs) cells) threads mutexes conditions }) book′
+      Landed size (record { store = store; tables = tables; values = s .values; regs = withMade (withCells (s .regs) cells) threads mutexes conditions }) book′
   changed store tables cells threads mutexes conditions book′ same h b =
-      active-right size _ book′
+      active-landed size _ book′
       (record {
         both = b;
         frame = resized cells h;

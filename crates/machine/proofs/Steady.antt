@@ -65,8 +65,16 @@ active-right size s book y m some =
           };
     }
 
+-- an instruction that was carried out leaves a right machine with no fault
+pub record Landed (size : ℕ) (s : State) (book : Book) : Type 0 where
+  pub right : Right size s book
+  pub sound : s .regs .fault ≡ 0
+
+pub active-landed : (size : ℕ) (s : State) (book : Book) → Steady size s book → Marked s → s .regs .thread ≢ size → Landed size s book
+active-landed size s book y m some = record { right = active-right size s book y m some; sound = m .sound }
+
 -- Next, where a thread has left
-pub next-right : (size : ℕ) (s : State) (book : Book) → Steady size s book → Marked s → s .regs .thread ≡ size → Right size (next size s) book
+pub next-right : (size : ℕ) (s : State) (book : Book) → Steady size s book → Marked s → s .regs .thread ≡ size → Landed size (next size s) book
 unfolding next anyLive
 next-right size s book y m none = by-queue (queue (s .tables) ready) refl
   where
@@ -84,47 +92,53 @@ next-right size s book y m none = by-queue (queue (s .tables) ready) refl
           valued = y .valued;
         }
 
-    by-life : queue (s .tables) ready ≡ [] → (b : Bool) → anyLive size (s .tables) ≡ b → Right size (after b) book
+    by-life : queue (s .tables) ready ≡ [] → (b : Bool) → anyLive size (s .tables) ≡ b → Landed size (after b) book
     by-life e true l =
         let who = some-true size (lives (s .tables)) l in
         record {
-          steady = still-steady true;
-          mode =
-              record {
-                known = omega arith;
-                has-thread = λ k. absurd (omega (arith, k));
-                fault-thread = λ k. absurd (omega (arith, k));
-                stuck-none = λ k. refl;
-                stuck-unready = λ k t h. nobody-at (y .both) ready e t h;
-                stuck-lives = λ k. record { who = who .which; there = who .less; alive = ltb-true _ _ (who .passes) };
-                halted-empty = λ k. absurd (omega (arith, k));
-              };
-          number = record { least = λ k. absurd (omega (arith, k)); most = λ k. absurd (omega (arith, k)); none = λ k. m .sound };
+          sound = m .sound;
+          right = record {
+            steady = still-steady true;
+            mode =
+                record {
+                  known = omega arith;
+                  has-thread = λ k. absurd (omega (arith, k));
+                  fault-thread = λ k. absurd (omega (arith, k));
+                  stuck-none = λ k. refl;
+                  stuck-unready = λ k t h. nobody-at (y .both) ready e t h;
+                  stuck-lives = λ k. record { who = who .which; there = who .less; alive = ltb-true _ _ (who .passes) };
+                  halted-empty = λ k. absurd (omega (arith, k));
+                };
+            number = record { least = λ k. absurd (omega (arith, k)); most = λ k. absurd (omega (arith, k)); none = λ k. m .sound };
+          };
         }
     by-life e false l =
         record {
-          steady = still-steady false;
-          mode =
-              record {
-                known = omega arith;
-                has-thread = λ k. absurd (omega (arith, k));
-                fault-thread = λ k. absurd (omega (arith, k));
-                stuck-none = λ k. refl;
-                stuck-unready = λ k. absurd (omega (arith, k));
-                stuck-lives = λ k. absurd (omega (arith, k));
-                halted-empty = λ k h t below. ltb-false _ _ (some-false size (lives (s .tables)) l t below);
-              };
-          number = record { least = λ k. absurd (omega (arith, k)); most = λ k. absurd (omega (arith, k)); none = λ k. m .sound };
+          sound = m .sound;
+          right = record {
+            steady = still-steady false;
+            mode =
+                record {
+                  known = omega arith;
+                  has-thread = λ k. absurd (omega (arith, k));
+                  fault-thread = λ k. absurd (omega (arith, k));
+                  stuck-none = λ k. refl;
+                  stuck-unready = λ k. absurd (omega (arith, k));
+                  stuck-lives = λ k. absurd (omega (arith, k));
+                  halted-empty = λ k h t below. ltb-false _ _ (some-false size (lives (s .tables)) l t below);
+                };
+            number = record { least = λ k. absurd (omega (arith, k)); most = λ k. absurd (omega (arith, k)); none = λ k. m .sound };
+          };
         }
 
-    by-queue : (l : List ℕ) → queue (s .tables) ready ≡ l → Right size (nextOf size (first (s .tables) ready) s) book
+    by-queue : (l : List ℕ) → queue (s .tables) ready ≡ l → Landed size (nextOf size (first (s .tables) ready) s) book
     by-queue [] e = rw (first-nobody (s .tables) ready e) (by-life e (anyLive size (s .tables)) refl)
     by-queue (t ∷ rest) e =
         let b = starts (y .both) t rest none e in
         let below : t < size = head-below (y .both) ready t rest e in
         let at : placeOf (s .tables) t ≡ ready = first-at (s .tables) ready t rest e in
         rw (first-waiter (s .tables) ready t rest e)
-        (active-right size _ book
+        (active-landed size _ book
         (record {
           both = b;
           frame = y .both .kempt .tidy .placed t below .kept (omega arith);
@@ -206,13 +220,13 @@ module _ (size : ℕ) (s : State) (book : Book) (y : Runs size s book) where
   pub blocked-right : (p : ℕ) → ready ≤ p → ((m : ℕ) → m < mutexLimit size → p ≢ atMutex m) →
       ((c : ℕ) → c < conditionLimit size → p ≡ atCondition size c → c < s .regs .conditions) →
       ((u : ℕ) → p ≡ atEnd size u → (u < s .regs .threads) × (placeOf (s .tables) u ≢ ended)) →
-      Right size (blocked size s p) book
+      Landed size (blocked size s p) book
   blocked-right p high no-mutex condition end =
       next-right size (left size s p) book (left-steady p high no-mutex condition end) (left-marked p) (left-none p)
 
   -- for a mutex, which feeds the book
   pub lock-blocked : (m : ℕ) → m < s .regs .mutexes → ownerOf (s .tables) m ≢ size →
-      Right size (blocked size s (atMutex m)) (fed book (entry (s .regs .thread) (event.locks m)))
+      Landed size (blocked size s (atMutex m)) (fed book (entry (s .regs .thread) (event.locks m)))
   lock-blocked m made held =
       next-right size (left size s (atMutex m)) (fed book (entry (s .regs .thread) (event.locks m)))
       (gone-on (atMutex m) (fed book (entry (s .regs .thread) (event.locks m))) (waits saved-both m (y .some) made (rw same-owners held) saved-here))
@@ -220,7 +234,7 @@ module _ (size : ℕ) (s : State) (book : Book) (y : Runs size s book) where
       (left-none (atMutex m))
 
   -- the thread ends
-  pub ends-right : (v : ℤ) → Right size (ends size s v) (fed book (entry (s .regs .thread) event.ends))
+  pub ends-right : (v : ℤ) → Landed size (ends size s v) (fed book (entry (s .regs .thread) event.ends))
   unfolding finished
   ends-right v =
       let b = y .steady .both in
@@ -239,7 +253,7 @@ module _ (size : ℕ) (s : State) (book : Book) (y : Runs size s book) where
 
   -- the thread waits for a condition and a mutex that is owned is unlocked, then Next
   pub wait-right : (c m : ℕ) → c < s .regs .conditions → m < s .regs .mutexes → ownerOf (s .tables) m ≢ size →
-      Right size (next size (withTables (left size s (atCondition size c)) (unlocked size (left size s (atCondition size c) .tables) m)))
+      Landed size (next size (withTables (left size s (atCondition size c)) (unlocked size (left size s (atCondition size c) .tables) m)))
       (fed book (entry (s .regs .thread) (event.unlocks m)))
   unfolding left kept
   wait-right c m made-c made-m held =

@@ -7,19 +7,19 @@ use mathlib.Core.Logic.{_≢_}
 use native.Mathlib.Omega.{arith}
 use lib.Dec.{eqb, ltb, lit≤}
 use lib.ListN.{length, getD}
-use borrow.Author.Tests.{eqb-true, ltb-true}
+use borrow.Author.Tests.{eqb-true, ltb-true, ne-eqb}
 use Rattle.machine.specs.Book.{Book, Entry, bookOf, eventOf, fed}
 use Rattle.machine.specs.Execution.{Outcome, done, exec, fault}
 use Rattle.machine.specs.Instructions.{Instruction, decoded}
 use Rattle.machine.specs.Plain.{Fault, Frame, Mode}
-use Rattle.machine.specs.Registers.{isRunning, running}
+use Rattle.machine.specs.Registers.{faulted, isRunning, running}
 use Rattle.machine.specs.State.{State}
 use Rattle.machine.specs.Step.{Ran, carried, entered, executed, faultedAt, joined, onward, run, step, still}
 use Rattle.machine.proofs.Booked.{entry}
 use Rattle.machine.proofs.Execution.{exec-right}
 use Rattle.machine.proofs.Lists.{cases}
 use Rattle.machine.proofs.Outcomes.{Ends}
-use Rattle.machine.proofs.Steady.{Marked, Right, Runs, Steady}
+use Rattle.machine.proofs.Steady.{Landed, Marked, Right, Runs, Steady}
 use Rattle.machine.proofs.Targets.{Card}
 
 -- what a run must leave
@@ -65,21 +65,17 @@ some-thread size s book r e = r .mode .has-thread (eqb-true _ _ e)
 module _ (size : ℕ) (words : List ℕ) (card : Card words) where
   -- an instruction was carried out, or is a fault
   outcome : (s : State) (book : Book) → Right size s book → s .regs .thread ≢ size → (i : Instruction) (o : Outcome) →
-      Ends (λ u. Right size u (fed book (entry (s .regs .thread) (eventOf size (onward s) i u)))) o → After size book (entered size s (onward s) i o)
+      Ends (λ u. Landed size u (fed book (entry (s .regs .thread) (eventOf size (onward s) i u)))) o → After size book (entered size s (onward s) i o)
   unfolding bookOf
-  outcome s book r some i (done u) e = e
+  outcome s book r some i (done u) e = e .right
   outcome s book r some i (fault k) e = fault-right size s book r some k (e .0) (e .1)
 
-  pub carried-right : (s : State) (book : Book) → Right size s book → isRunning (s .regs) ≡ true → After size book (carried size words s)
-  unfolding carried
-  carried-right s book r e =
-      cases (ltb (s .regs .pc) (length words))
-      (λ k.
-      let below : s .regs .pc < length words = ltb-true _ _ k in
-      let i : Instruction = decoded (getD words (s .regs .pc) 0) in
-      rw k
-      (outcome s book r (some-thread size s book r e) i (exec size (length words) (onward s) i)
-      (exec-right size (length words) (onward s) book
+  -- the instruction's outcome, where PC is in the card
+  landed : (s : State) (book : Book) → Right size s book → isRunning (s .regs) ≡ true → s .regs .pc < length words →
+      let i = decoded (getD words (s .regs .pc) 0) in
+      Ends (λ u. Landed size u (fed book (entry (s .regs .thread) (eventOf size (onward s) i u)))) (exec size (length words) (onward s) i)
+  landed s book r e below =
+      exec-right size (length words) (onward s) book
       (record {
         steady =
             record {
@@ -100,8 +96,33 @@ module _ (size : ℕ) (words : List ℕ) (card : Card words) where
         some = some-thread size s book r e;
       })
       (card .most)
-      i
-      (card .targets (s .regs .pc) below))))
+      (decoded (getD words (s .regs .pc) 0))
+      (card .targets (s .regs .pc) below)
+
+  -- an instruction that was carried out counts 1, and a fault 0: the state afterwards tells which it was
+  counted : (s : State) (book : Book) (i : Instruction) (o : Outcome) → Ends (λ u. Landed size u (fed book (entry (s .regs .thread) (eventOf size (onward s) i u)))) o →
+      cond (eqb (entered size s (onward s) i o .state .regs .state) faulted) 0 1 ≡ length (entered size s (onward s) i o .trace)
+  counted s book i (done u) e = rw (ne-eqb (u .regs .state) faulted (λ k. omega (arith, e .right .number .least k, e .sound)))
+  counted s book i (fault k) e = refl
+
+  pub carried-count : (s : State) (book : Book) → Right size s book → isRunning (s .regs) ≡ true →
+      cond (eqb (carried size words s .state .regs .state) faulted) 0 1 ≡ length (carried size words s .trace)
+  unfolding carried
+  carried-count s book r e =
+      cases (ltb (s .regs .pc) (length words))
+      (λ k. rw k (counted s book (decoded (getD words (s .regs .pc) 0)) (exec size (length words) (onward s) (decoded (getD words (s .regs .pc) 0))) (landed s book r e (ltb-true _ _ k))))
+      (λ k. rw k)
+
+  pub carried-right : (s : State) (book : Book) → Right size s book → isRunning (s .regs) ≡ true → After size book (carried size words s)
+  unfolding carried
+  carried-right s book r e =
+      cases (ltb (s .regs .pc) (length words))
+      (λ k.
+      let below : s .regs .pc < length words = ltb-true _ _ k in
+      let i : Instruction = decoded (getD words (s .regs .pc) 0) in
+      rw k
+      (outcome s book r (some-thread size s book r e) i (exec size (length words) (onward s) i)
+      (landed s book r e below)))
       (λ k. rw k (fault-right size s book r (some-thread size s book r e) 20 (lit≤ tt) (lit≤ tt)))
 
   pub step-right : (s : State) (book : Book) → Right size s book → After size book (step size words s)
