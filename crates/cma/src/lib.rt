@@ -1,0 +1,6 @@
+// The machine under the cards: set-up, step and run. These are the public functions: they take any input, and refuse what is bad.
+mod opening;
+mod results;
+
+pub use opening::set_up;
+pub use results::Outcome;

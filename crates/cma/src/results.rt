@@ -1,0 +1,41 @@
+// What a call gives back: its answer, the number of instructions carried out, and the registers.
+ghost use mathlib.Core.Path.{_≡_};
+ghost use Rattle.cma.specs.Outcome.{refusal};
+ghost use Rattle.machine.specs.Registers.{zeros};
+use machine::Answer;
+use machine::Registers;
+
+pub struct Outcome {
+    pub answer: Answer,
+    pub count: usize,
+    pub registers: Registers,
+}
+
+// A call that changes nothing.
+pub fn refused(number: usize, place: usize, registers: Registers) -> Outcome
+    ensures { λ r. ⌜ r ≡ refusal number place registers ⌝ }
+{
+    Outcome {
+        answer: Answer::Refused { number, place },
+        count: 0,
+        registers,
+    }
+}
+
+// All registers 0, which is halted.
+pub fn no_registers() -> Registers
+    ensures { λ r. ⌜ r ≡ zeros ⌝ }
+{
+    Registers {
+        state: 0,
+        fault: 0,
+        thread: 0,
+        pc: 0,
+        cells: 0,
+        fp: 0,
+        free: 0,
+        threads: 0,
+        mutexes: 0,
+        conditions: 0,
+    }
+}
