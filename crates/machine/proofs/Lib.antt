@@ -19,3 +19,9 @@ pub mod Runs
 pub mod Runner
 pub mod Sessions
 pub mod Equations
+pub mod Laws
+pub mod RunLaws
+pub mod NotEmpty
+pub mod Traces
+pub mod Cuts
+pub mod Order

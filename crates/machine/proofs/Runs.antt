@@ -2,14 +2,15 @@
 -- what `Kept` states, which the machine's invariants supply.
 use Prim.Native.Nat.{ℕ, zero, suc, _+_}
 use mathlib.Core.Bool.{true, false}
-use mathlib.Core.List.{List, _++_, append-assoc, append-nil}
+use mathlib.Core.List.{List, append-assoc, append-nil}
 use mathlib.Core.Path.{_≡_, refl}
 use native.Mathlib.Nat.{suc-add, zero-add}
 use lib.ListN.{length-append}
 use Rattle.card.specs.Image.{readOf}
 use Rattle.card.specs.declared.reader.Reading.{Reading}
 use Rattle.card.specs.declared.reader.Reading.the-variants as reading
-use Rattle.machine.specs.Calls.{Box, Called, boxOf, cardOf, ranOf, refused, runCall, stateOf, stepCall, storeFits}
+use Rattle.machine.specs.Calls.{Box, boxOf, cardOf, ranOf, refused, runCall, stateOf, stepCall, storeFits}
+use Rattle.machine.specs.Laws.{then}
 use Rattle.machine.specs.Registers.{isRunning}
 use Rattle.machine.specs.State.{State}
 use Rattle.machine.specs.Step.{Ran, carried, countOf, joined, run, step, still}
@@ -112,10 +113,6 @@ Kept size image m box =
     (storeFits size (after .store) ≡ true)
     × (wellFormed size (after .regs) (sliceOf (after .tables)) (after .values) ≡ true)
     × (stateOf size (boxOf after) ≡ after)
-
--- one call after another: the answer and the box are the second's, and what was carried out is appended
-abbrev pub then : Called → Called → Called
-then first second = record { answer = second .answer; trace = first .trace ++ second .trace; box = second .box }
 
 -- "Runs of a and then b equal one of a + b", of the calls. Where the first is refused, all are refused alike, and `Kept` says nothing.
 pub runs-add :

@@ -13,3 +13,5 @@ pub mod Calls
 pub mod Demand
 pub mod Runner
 pub mod Sessions
+pub mod Laws
+pub mod Order

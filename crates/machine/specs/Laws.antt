@@ -1,0 +1,145 @@
+-- Laws of the definitions, over every box and every call: what a call keeps, what a refusal and a fault change, what a run counts, and that none of
+-- this is empty. Their proofs are in proofs/Laws.antt, proofs/RunLaws.antt and proofs/NotEmpty.antt.
+use Prim.Native.Nat.{ℕ, _+_, _≤_, _<_}
+use mathlib.Core.Bool.{true, false}
+use mathlib.Core.List.{List, [], _∷_, _++_}
+use mathlib.Core.Logic.{_⊎_, _≢_}
+use mathlib.Core.Path.{_≡_}
+use lib.IntN.{pos}
+use lib.ListN.{length}
+use Rattle.card.specs.Image.{readOf}
+use Rattle.card.specs.declared.reader.Reading.the-variants as reading
+use Rattle.machine.specs.Book.{Entry}
+use Rattle.machine.specs.Calls.{Box, Called, answerOf, boxOf, cardOf, countOf, runCall, setUp, stateOf, stepCall, storeFits}
+use Rattle.machine.specs.Demand.{Call, callOf, played, runOn}
+use Rattle.machine.specs.Registers.{isRunning, stopped, zeros}
+use Rattle.machine.specs.Runner.{lent}
+use Rattle.machine.specs.Sessions.{card, word}
+use Rattle.machine.specs.Size.{full, shared, storeSize, tablesSize, valuesSize}
+use Rattle.machine.specs.State.{State, start, withRegs}
+use Rattle.machine.specs.Step.{carried, run}
+use Rattle.machine.specs.Step as steps
+use Rattle.machine.specs.Tables.{Tables, atMutex, ownerOf, queue}
+use Rattle.machine.specs.WellFormed.{wellFormed}
+use Rattle.machine.specs.declared.answers.Answer.the-variants.{Refused, Running}
+
+-- a box that numbers 6 and 7 let through: its store fits, and it is well formed
+pub record Sound (size : ℕ) (box : Box) : Type 0 where
+  pub store : storeFits size (box .store) ≡ true
+  pub formed : wellFormed size (box .regs) (box .tables) (box .values) ≡ true
+
+-- "Damaged is not well formed: no call gets 7." Every call, with any image and any m, leaves such a box as such a box.
+abbrev pub KeepsFormed : Type 0
+KeepsFormed = (size : ℕ) (call : Call) (box : Box) → Sound size box → Sound size (callOf size call box .box)
+
+-- "Setting up clears the store and, whatever the lent tables held, leaves nothing made but thread 0": a set-up that isn't refused leaves one
+-- definite box, which is such a box
+abbrev pub SetUpForms : Type 0
+SetUpForms =
+    (size : ℕ) (image : List ℕ) (cells : ℕ) (box : Box) →
+    1 ≤ size →
+    readOf image ≡ reading.Accepted cells →
+    cells ≤ shared size →
+    length (box .store) ≡ storeSize size →
+    length (box .tables) ≡ tablesSize size →
+    length (box .values) ≡ valuesSize size →
+    (setUp size image box ≡ record { answer = Running; trace = []; box = boxOf (start size cells) })
+    × Sound size (setUp size image box .box)
+
+-- "Faults 20 up mark the machine faulted and change no cell, thread or queue": an instruction is carried out, which is one entry, or nothing is
+-- entered and only the registers' state and fault are changed
+abbrev pub FaultKeeps : Type 0
+FaultKeeps =
+    (size : ℕ) (words : List ℕ) (s : State) →
+    ((entry : Entry) × (carried size words s .trace ≡ entry ∷ []))
+    ⊎ ((number : ℕ) × (carried size words s ≡ record { state = withRegs s (stopped (s .regs) number); trace = [] }))
+
+-- "one of the table from 20 up": a fault's number, in a box that 6 and 7 let through and with an accepted card
+abbrev pub FaultNumbers : Type 0
+FaultNumbers =
+    (size : ℕ) (image : List ℕ) (cells : ℕ) (box : Box) (number : ℕ) →
+    readOf image ≡ reading.Accepted cells →
+    Sound size box →
+    isRunning (box .regs) ≡ true →
+    carried size (cardOf image) (stateOf size box)
+    ≡ record { state = withRegs (stateOf size box) (stopped (box .regs) number); trace = [] } →
+    (20 ≤ number) × (number ≤ 30)
+
+-- "Numbers 1 to 8 alter nothing, and the registers come back as given with count 0"
+abbrev pub RefusedKeeps : Type 0
+RefusedKeeps =
+    (size : ℕ) (call : Call) (box : Box) (number place : ℕ) →
+    callOf size call box .answer ≡ Refused number place →
+    (callOf size call box .box ≡ box) × (callOf size call box .trace ≡ [])
+
+-- "a refused set-up gives all registers 0, halted", and alters nothing else
+abbrev pub RefusedSetUp : Type 0
+RefusedSetUp =
+    (size : ℕ) (image : List ℕ) (box : Box) (number place : ℕ) →
+    setUp size image box .answer ≡ Refused number place →
+    (setUp size image box .box ≡ record { store = box .store; tables = box .tables; values = box .values; regs = zeros })
+    × (setUp size image box .trace ≡ [])
+
+-- one call after another: the answer and the box are the second's, and what was carried out is appended
+abbrev pub then : Called → Called → Called
+then first second = record { answer = second .answer; trace = first .trace ++ second .trace; box = second .box }
+
+-- "Runs of a and then b equal one of a + b, counts added": of the calls, for every input. Where one is refused, all are refused alike.
+abbrev pub RunsAdd : Type 0
+RunsAdd =
+    (size : ℕ) (image : List ℕ) (box : Box) (a b : ℕ) →
+    (runCall size image (a + b) box
+    ≡ then (runCall size image a box) (runCall size image b (runCall size image a box .box)))
+    × (countOf (runCall size image (a + b) box)
+    ≡ countOf (runCall size image a box) + countOf (runCall size image b (runCall size image a box .box)))
+
+-- a step is a run of one, answer and all
+abbrev pub StepIsRun : Type 0
+StepIsRun = (size : ℕ) (image : List ℕ) (box : Box) → stepCall size image box ≡ runCall size image 1 box
+
+-- "A run of m steps stops early when the machine does. Its count is the instructions carried out"
+pub record Counted (size : ℕ) (words : List ℕ) (s : State) (m : ℕ) : Type 0 where
+  -- at most m are carried out, ..
+  pub most : steps.countOf (run size words s m) ≤ m
+  -- .. and fewer only where the machine has stopped
+  pub fewer : steps.countOf (run size words s m) < m → isRunning (run size words s m .state .regs) ≡ false
+  -- "A step on one not running changes nothing and counts 0"
+  pub stays : isRunning (s .regs) ≡ false → run size words s m ≡ record { state = s; trace = [] }
+
+abbrev pub RunCounts : Type 0
+RunCounts = (size : ℕ) (words : List ℕ) (s : State) (m : ℕ) → Counted size words s m
+
+-- the same of the calls, for every input: a refused one counts 0, and doesn't answer that the machine is running
+pub record CallCounted (size : ℕ) (image : List ℕ) (box : Box) (m : ℕ) : Type 0 where
+  pub most : countOf (runCall size image m box) ≤ m
+  pub fewer : countOf (runCall size image m box) < m → runCall size image m box .answer ≢ Running
+  pub stays : isRunning (box .regs) ≡ false → (runCall size image m box .box ≡ box) × (runCall size image m box .trace ≡ [])
+
+abbrev pub CallCounts : Type 0
+CallCounts = (size : ℕ) (image : List ℕ) (box : Box) (m : ℕ) → CallCounted size image box m
+
+-- "It answers the state again, a faulted one with its number and place": a run of any m on a box that isn't running
+abbrev pub AnswersAgain : Type 0
+AnswersAgain =
+    (size : ℕ) (image : List ℕ) (cells : ℕ) (box : Box) (m : ℕ) →
+    readOf image ≡ reading.Accepted cells →
+    Sound size box →
+    isRunning (box .regs) ≡ false →
+    runCall size image m box ≡ record { answer = answerOf (box .regs); trace = []; box = box }
+
+-- a card on which two threads want one mutex: newmutex, lock, loadc 7, loadc 0, create, yield, halt; from 7 on, loadc 0, lock
+abbrev pub contended : List ℕ
+contended =
+    card
+    (word 31 (pos 0) ∷ word 32 (pos 0) ∷ word 1 (pos 7) ∷ word 1 (pos 0) ∷ word 26 (pos 0) ∷ word 27 (pos 0) ∷ word 0 (pos 0) ∷ word 1 (pos 0) ∷ word 32 (pos 0)
+    ∷ [])
+
+-- the tables after a run of 8 steps on it, in the paper's box
+abbrev pub contention : Tables
+contention = stateOf full (played full (runOn contended 8 ∷ []) (setUp full contended (lent full) .box) .box) .tables
+
+-- none of this is empty: an accepted card exists, and after a list of calls a mutex has an owner and somebody waits for it
+pub record NotEmpty : Type 0 where
+  pub accepted : readOf contended ≡ reading.Accepted 1
+  pub owner : ownerOf contention 0 ≡ 0
+  pub waiters : queue contention (atMutex 0) ≡ 1 ∷ []
