@@ -34,7 +34,7 @@ use Rattle.machine.proofs.Slices.{length-slice, slice-sizes, slice-tabl
 use Rattle.machine.proofs.Start.{start-right}
 use Rattle.machine.proofs.Steady.{Right}
 use Rattle.machine.proofs.Steps.{After, run-right, step-right}
-use Rattle.machine.proofs.Targets.{Card, all-fine, target-in}
+use Rattle.machine.proofs.Targets.{Card, all-fine, opcode-known, operand-allowed, target-in}
 
 -- ---- the card
 
@@ -49,6 +49,8 @@ card-of image cells e =
     (record {
       some = rw n (a .sized .count .some);
       most = rw n (a .sized .count .most);
+      opcodes = λ i h. opcode-known (length words) (getD words i 0) (all-fine (length words) 0 words fine i h);
+      permitted = λ i h. operand-allowed (length words) (getD words i 0) (all-fine (length words) 0 words fine i h);
       targets = λ i h. target-in (length words) (getD words i 0) (rw n (a .sized .count .some)) (all-fine (length words) 0 words fine i h);
     })
 

@@ -25,3 +25,4 @@ pub mod NotEmpty
 pub mod Traces
 pub mod Cuts
 pub mod Order
+pub mod Mistakes

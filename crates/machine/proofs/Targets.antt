@@ -9,7 +9,7 @@ use lib.Dec.{eqb, ltb}
 use lib.IntN.{ℤ, pos, negsuc, natAbs, _-ℤ_}
 use lib.ListN.{length, getD, List·getD-eq-default}
 use lib.Signed.{leZ}
-use borrow.Author.Tests.{eq-eqb, ne-eqb, eqb-true, eqb-false, leb-true, le-ltb, ltb-true}
+use borrow.Author.Tests.{eq-eqb, ne-eqb, eqb-true, eqb-false, leb-true, le-ltb, ltb-true, ltb-false}
 use Rattle.instruction.specs.Rules.{allows, checkOf, isBetween, ruleOf}
 use Rattle.instruction.specs.Word.{opcodeOf, operandOf}
 use Rattle.instruction.specs.declared.Rule.the-variants as rule
@@ -122,10 +122,19 @@ allowed true fits e = absurd (let z : _≡_ {A = ℕ} 0 1 = cc in omega arith)
 allowed false true e = refl
 allowed false false e = absurd (let z : _≡_ {A = ℕ} 0 1 = cc in omega arith)
 
+-- .. and its opcode is one
+known : (over fits : Bool) → cond over verdict.BadOpcode (cond fits verdict.Fine verdict.BadOperand) ≡ verdict.Fine → over ≡ false
+known true fits e = absurd (let z : _≡_ {A = ℕ} 0 1 = cc in omega arith)
+known false fits e = refl
+
+pub opcode-known : (n w : ℕ) → checkOf (lastOf n) w ≡ verdict.Fine → opcodeOf w ≤ 37
+opcode-known n w e = ltb-false 37 (opcodeOf w) (known (ltb 37 (opcodeOf w)) (allows (ruleOf (opcodeOf w)) (lastOf n) (operandOf w)) e)
+
+pub operand-allowed : (n w : ℕ) → checkOf (lastOf n) w ≡ verdict.Fine → allows (ruleOf (opcodeOf w)) (lastOf n) (operandOf w) ≡ true
+operand-allowed n w e = allowed (ltb 37 (opcodeOf w)) (allows (ruleOf (opcodeOf w)) (lastOf n) (operandOf w)) e
+
 pub target-in : (n w : ℕ) → 1 ≤ n → checkOf (lastOf n) w ≡ verdict.Fine → targetOf (decoded w) < n
-target-in n w h e =
-    target-at n (opcodeOf w) (operandOf w) h
-    (allowed (ltb 37 (opcodeOf w)) (allows (ruleOf (opcodeOf w)) (lastOf n) (operandOf w)) e)
+target-in n w h e = target-at n (opcodeOf w) (operandOf w) h (operand-allowed n w e)
 
 -- a search that found nothing found this word fine, and the rest
 good-word : (v : Verdict) (i : ℕ) (rest : Scan) → orElse (scanOf v i) rest ≡ scan.Fine → (v ≡ verdict.Fine) × (rest ≡ scan.Fine)
@@ -144,4 +153,6 @@ all-fine n i (w ∷ ws) e (suc k) h = all-fine n (suc i) ws (good-word (checkOf 
 pub record Card (words : List ℕ) : Type 0 where
   pub some : 1 ≤ length words
   pub most : length words ≤ 4096
+  pub opcodes : (i : ℕ) → i < length words → opcodeOf (getD words i 0) ≤ 37
+  pub permitted : (i : ℕ) → i < length words → allows (ruleOf (opcodeOf (getD words i 0))) (lastOf (length words)) (operandOf (getD words i 0)) ≡ true
   pub targets : (i : ℕ) → i < length words → targetOf (decoded (getD words i 0)) < length words

@@ -15,3 +15,4 @@ pub mod Runner
 pub mod Sessions
 pub mod Laws
 pub mod Order
+pub mod Mistakes

@@ -69,3 +69,7 @@ pub record Made (size : ℕ) (r : Registers) : Type 0 where
 abbrev pub indexOf : ℤ → ℕ → Index
 indexOf (pos a) limit = cond (ltb a limit) (In a) Out
 indexOf (negsuc a) limit = Out
+
+-- an instruction on the registers alone does so in every box, on every store
+abbrev pub DoesAnywhere : Instruction → Registers → Registers → Type 0
+DoesAnywhere i r q = (size : ℕ) (store : List ℤ) → Does size i store r store q

@@ -1,58 +1,18 @@
--- `stack::index::checked` meets its contract: a cell's value is not negative and below the limit. Assumes nothing.
-use Prim.Native.Nat.{ℕ, _<_, _≤_}
-use mathlib.Core.Bool.{true, false}
-use mathlib.Core.Path.{_≡_, refl, sym, _∙_}
-use native.Mathlib.Omega.{arith}
-use borrow.Author.Tests.{lt-ltb, le-ltb, ltb-true}
-use lib.IntN.{ℤ, pos, negsuc, natAbs}
-use lib.Signed.{ltZ, nonNeg}
-use lib.Dec.{T}
-use mir.Syntax.{w32, w64}
-use mir.Val.{Fits, SFits, toZ, ofZ}
-use mir.Facts.{fits-natAbs, toZ-ofZ}
-use Rattle.stack.specs.Contract.{indexOf}
-use Rattle.stack.specs.declared.index.Index.the-variants.{In, Out}
+-- `stack::index::checked` meets its contract. Assumes nothing.
+use borrow.Author.Needs.{needs}
+use mir.Facts.{toZ-ofZ}
+use Rattle.arithmetic.proofs.Wide.{cast-fits}
 use Rattle.stack.proofs.index.checked.Statement.{statement}
 use Rattle.stack.proofs.index.checked.Tie as tie
 
--- a negative value is out of every range
-negative : (v : ℤ) (limit : ℕ) → ltZ v (pos 0) ≡ true → Out ≡ indexOf v limit
-negative (pos a) limit e = absurd (let z : _≡_ {A = ℕ} 0 1 = ap′ in omega arith)
-  where
-    ap′ : _≡_ {A = ℕ} 0 1
-    ap′ = let h : a < 0 = ltb-true a 0 e in absurd (omega arith)
-negative (negsuc a) limit e = refl
+cast-ranged : tie.Need-cast-ranged
+cast-ranged c = search cast-fits
 
--- any other is a number
-not-negative : (v : ℤ) → ltZ v (pos 0) ≡ false → T (nonNeg v)
-not-negative (pos a) e = tt
-not-negative (negsuc a) e = absurd (let z : _≡_ {A = ℕ} 0 1 = never e in omega arith)
-  where
-    never : true ≡ false → _≡_ {A = ℕ} 0 1
-    never k = cc
-
-inside : (v : ℤ) (limit : ℕ) → ltZ v (pos 0) ≡ false → natAbs v < limit → In (natAbs v) ≡ indexOf v limit
-inside (pos a) limit e h = rw (lt-ltb a limit h)
-inside (negsuc a) limit e h = absurd (let z : _≡_ {A = ℕ} 0 1 = cc in omega arith)
-
-outside : (v : ℤ) (limit : ℕ) → ltZ v (pos 0) ≡ false → limit ≤ natAbs v → Out ≡ indexOf v limit
-outside (pos a) limit e h = rw (le-ltb a limit h)
-outside (negsuc a) limit e h = refl
-
-sign : (c : tie.Else1) → ltZ (c .before .args .v) (pos 0) ≡ false
-sign c = rw (toZ-ofZ (c .before .fits .v)) at (c .if1 .left)
+ranged-requires : tie.Need-ranged-requires
+ranged-requires c κs = search needs
 
 returns : tie.Need-returns
-returns c = negative (c .before .args .v) (c .before .args .limit) (rw (toZ-ofZ (c .before .fits .v)) at (c .if1 .taken))
-
-cast-a : tie.Need-cast-a
-cast-a c = rw (toZ-ofZ (c .before .fits .v)) (not-negative (c .before .args .v) (sign c), fits-natAbs tt (c .before .fits .v))
-
-returns-2 : tie.Need-returns-2
-returns-2 c = rw (toZ-ofZ (c .before .before .fits .v)) (inside (c .before .before .args .v) (c .before .before .args .limit) (sign (c .before)) (rw (toZ-ofZ (c .before .before .fits .v)) at (c .if2 .taken)))
-
-returns-3 : tie.Need-returns-3
-returns-3 c = outside (c .before .before .args .v) (c .before .before .args .limit) (sign (c .before)) (rw (toZ-ofZ (c .before .before .fits .v)) at (c .if2 .left))
+returns c = rw (toZ-ofZ (cast-fits (c .before .fits .v)), toZ-ofZ (c .before .fits .v)) at (c .ranged .ensures)
 
 pub checked-spec : {M : Type 1} → statement M
-checked-spec = tie.close (tie.spec returns cast-a returns-2 returns-3)
+checked-spec = tie.close (tie.spec cast-ranged ranged-requires returns)

@@ -1,0 +1,3 @@
+pub mod Opcodes
+pub mod Working
+pub mod Course

@@ -1,0 +1,92 @@
+// Mutexes: who owns one, and who waits for it.
+ghost use Prim.Native.Nat.{_*_, _<_};
+ghost use mathlib.Core.Path.{_≡_};
+ghost use lib.ListN.{length};
+ghost use Rattle.machine.specs.Instructions.{lock, newmutex, unlock};
+ghost use Rattle.machine.specs.Tables.{tablesOf, unlocked};
+ghost use Rattle.stack.specs.Contract.{Able, Acts, Does, Made};
+ghost use Rattle.tables.specs.Good.{Good, Left};
+use crate::numbers::AMutex;
+use crate::numbers::a_mutex;
+use crate::numbers::next_number;
+use machine::First;
+use machine::Mutex;
+use machine::Registers;
+
+pub fn newmutex(store: &mut [i32], size: usize, r: Registers) -> Registers
+    requires { ⌜ Able size r (length (now store)) ⌝ }
+    ensures { λ q. ⌜ Does size newmutex (now (store .entry)) r (now (store .exit)) q ⌝ }
+{
+    let cells = r.cells;
+    if 127 < cells {
+        return r.stop(22);
+    }
+    let made = r.mutexes;
+    stack::poke(store, size, r.thread, cells, next_number(made, 2 * size));
+    let q = r.advance().with_cells(cells + 1);
+    if made < 2 * size {
+        q.with_made(r.threads, made + 1, r.conditions)
+    } else {
+        q
+    }
+}
+
+// A free mutex is taken; else the thread waits for it.
+pub fn lock(store: &[i32], tables: &mut [usize], size: usize, r: Registers) -> Registers
+    requires { ⌜ Able size r (length (now store)) ⌝ }
+    requires { ⌜ Good size (now tables) ⌝ }
+    requires { ⌜ Made size r ⌝ }
+    ensures { λ q. ⌜ Acts size lock (now (store .entry)) (now (tables .entry)) r (now (store .entry)) (now (tables .exit)) q ⌝ }
+{
+    let cells = r.cells;
+    if cells < 1 {
+        return r.stop(21);
+    }
+    let top = stack::peek(store, size, r.thread, cells - 1);
+    let AMutex::Made(m) = a_mutex(top, r.mutexes) else {
+        return r.stop(27);
+    };
+    let popped = r.advance().with_cells(cells - 1);
+    let owner = tables::owner(tables, size, m);
+    if owner == size {
+        tables::own(tables, size, m, r.thread);
+        return popped;
+    }
+    threads::block(tables, size, popped, 4 + m.0)
+}
+
+// Only the owner unlocks.
+pub fn unlock(store: &[i32], tables: &mut [usize], size: usize, r: Registers) -> Registers
+    requires { ⌜ Able size r (length (now store)) ⌝ }
+    requires { ⌜ Good size (now tables) ⌝ }
+    requires { ⌜ Made size r ⌝ }
+    ensures { λ q. ⌜ Acts size unlock (now (store .entry)) (now (tables .entry)) r (now (store .entry)) (now (tables .exit)) q ⌝ }
+{
+    let cells = r.cells;
+    if cells < 1 {
+        return r.stop(21);
+    }
+    let top = stack::peek(store, size, r.thread, cells - 1);
+    let AMutex::Made(m) = a_mutex(top, r.mutexes) else {
+        return r.stop(27);
+    };
+    let owner = tables::owner(tables, size, m);
+    if owner != r.thread {
+        return r.stop(28);
+    }
+    unlock_mutex(tables, size, m);
+    r.advance().with_cells(cells - 1)
+}
+
+// The first waiter owns the mutex and is ready; with none, the mutex is free.
+pub fn unlock_mutex(tables: &mut [usize], size: usize, m: Mutex)
+    requires { ⌜ Good size (now tables) ⌝ }
+    requires { ⌜ m .0 < 2 * size ⌝ }
+    ensures { λ _. ⌜ Left size (now (tables .exit)) (unlocked size (tablesOf size (now (tables .entry))) (m .0)) ⌝ }
+{
+    let First::Waiter(t) = tables::dequeue(tables, size, 4 + m.0, tables::READY) else {
+        tables::own(tables, size, m, size);
+        return;
+    };
+    tables::own(tables, size, m, t.0);
+}

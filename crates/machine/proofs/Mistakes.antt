@@ -1,0 +1,30 @@
+-- The five errors that look right show on these cards: computed. Assumes nothing.
+use mathlib.Core.Path.{refl}
+use Rattle.card.specs.Code.{firstBad, wordsOf}
+use Rattle.card.specs.Image.{codeOf, readCode, readOf}
+use Rattle.card.specs.Writing.{wordsBytes}
+use Rattle.machine.specs.Book.{eventOf}
+use Rattle.machine.specs.Calls.{runCall, setUp}
+use Rattle.machine.specs.Execution.{exec, fits, frame, needs, owns, rooms, within}
+use Rattle.machine.specs.Instructions.{instructionOf}
+use Rattle.machine.specs.Mistakes.{Excluded}
+use Rattle.machine.specs.Lists.{count, every, keep, some, toEnd, upTo}
+use Rattle.machine.specs.State.{finished, left, next, start}
+use Rattle.machine.specs.Step.{carried, run}
+use Rattle.machine.specs.Tables.{allReady, anyLive, first, owned, queue, saved, sent, sliceOf, tablesOf}
+use Rattle.machine.specs.WellFormed.{allBelow, formed, wellFormed}
+
+pub excluded : Excluded
+unfolding
+    setUp runCall run carried exec needs rooms within fits frame owns eventOf instructionOf start next left finished tablesOf sliceOf queue anyLive
+    first sent owned saved allReady keep count toEnd upTo every some allBelow formed wellFormed readOf readCode codeOf firstBad wordsOf wordsBytes
+excluded =
+    record {
+      woken-owner = refl;
+      woken-waits = refl;
+      retried-owner = refl;
+      retried-waits = refl;
+      remembered-stuck = refl;
+      reversed-ready = refl;
+      untested-fault = refl;
+    }

@@ -1,0 +1,96 @@
+-- "Errors that look right": for each of the five a small card on which it would show, and what the definitions give instead.
+-- proofs/Mistakes.antt computes them.
+use Prim.Native.Nat.{ℕ}
+use mathlib.Core.List.{List, [], _∷_}
+use mathlib.Core.Path.{_≡_}
+use lib.IntN.{pos}
+use Rattle.machine.specs.Calls.{Called, runCall, setUp, stateOf}
+use Rattle.machine.specs.Runner.{lent}
+use Rattle.machine.specs.Sessions.{card, word}
+use Rattle.machine.specs.Size.{full}
+use Rattle.machine.specs.Tables.{Tables, atMutex, ownerOf, queue, ready}
+use Rattle.machine.specs.declared.answers.Answer.the-variants.{Faulted, Stuck}
+
+-- the instructions of these cards, by the paper's opcodes
+abbrev halt : ℕ
+halt = word 0 (pos 0)
+
+abbrev loadc : ℕ → ℕ
+loadc k = word 1 (pos k)
+
+abbrev create : ℕ
+create = word 26 (pos 0)
+
+abbrev yield : ℕ
+yield = word 27 (pos 0)
+
+abbrev newmutex : ℕ
+newmutex = word 31 (pos 0)
+
+abbrev lock : ℕ
+lock = word 32 (pos 0)
+
+abbrev unlock : ℕ
+unlock = word 33 (pos 0)
+
+abbrev newcond : ℕ
+newcond = word 34 (pos 0)
+
+abbrev wait : ℕ
+wait = word 35 (pos 0)
+
+abbrev signal : ℕ
+signal = word 36 (pos 0)
+
+abbrev broadcast : ℕ
+broadcast = word 37 (pos 0)
+
+-- a run of m steps after setting up
+abbrev pub runIn : ℕ → List ℕ → ℕ → Called
+runIn size list m = runCall size (card list) m (setUp size (card list) (lent size) .box)
+
+-- the tables that it leaves in the paper's box
+abbrev pub tablesAfter : List ℕ → ℕ → Tables
+tablesAfter list m = stateOf full (runIn full list m .box) .tables
+
+-- "Waking a condition's waiter straight past its lock: it must execute lock itself." Thread 1, from 12 on, locks the mutex and waits; thread 0 then
+-- locks it, signals and yields, and thread 1's own lock at 17 finds it owned.
+abbrev pub woken : List ℕ
+woken =
+    newmutex ∷ newcond ∷ loadc 12 ∷ loadc 0 ∷ create ∷ yield
+    ∷ loadc 0 ∷ lock ∷ loadc 0 ∷ signal ∷ yield ∷ halt
+    ∷ loadc 0 ∷ lock ∷ loadc 0 ∷ loadc 0 ∷ wait ∷ lock ∷ halt ∷ []
+
+-- "Freeing the mutex in unlock and letting the waiter try again: a third thread gets in first." Thread 1, from 10 on, waits for the mutex of thread
+-- 0, which unlocks it and at once locks it again, and has to wait.
+abbrev pub retried : List ℕ
+retried =
+    newmutex ∷ lock ∷ loadc 10 ∷ loadc 0 ∷ create ∷ yield ∷ loadc 0 ∷ unlock ∷ loadc 0 ∷ lock
+    ∷ loadc 0 ∷ lock ∷ halt ∷ []
+
+-- "Signal remembered for a later wait." Nobody waits for the condition, so that a wait after the signal waits for good.
+abbrev pub remembered : List ℕ
+remembered = newmutex ∷ lock ∷ newcond ∷ signal ∷ loadc 0 ∷ loadc 0 ∷ wait ∷ halt ∷ []
+
+-- "Broadcast in reverse order." Threads 1 and 2, from 12 on, wait for the condition in this order.
+abbrev pub reversed : List ℕ
+reversed =
+    newmutex ∷ newcond ∷ loadc 12 ∷ loadc 0 ∷ create ∷ loadc 12 ∷ loadc 0 ∷ create ∷ yield
+    ∷ loadc 0 ∷ broadcast ∷ halt
+    ∷ loadc 0 ∷ lock ∷ loadc 0 ∷ loadc 0 ∷ wait ∷ halt ∷ []
+
+-- "Giving -1 from create before testing the entry." In a box for one thread all are made, and the entry is no instruction of the card.
+abbrev pub untested : List ℕ
+untested = loadc 3 ∷ loadc 0 ∷ create ∷ []
+
+pub record Excluded : Type 0 where
+  -- thread 0 owns the mutex, and thread 1 waits for it
+  pub woken-owner : ownerOf (tablesAfter woken 17) 0 ≡ 0
+  pub woken-waits : queue (tablesAfter woken 17) (atMutex 0) ≡ 1 ∷ []
+  -- thread 1 owns the mutex, and thread 0 waits for it
+  pub retried-owner : ownerOf (tablesAfter retried 12) 0 ≡ 1
+  pub retried-waits : queue (tablesAfter retried 12) (atMutex 0) ≡ 0 ∷ []
+  pub remembered-stuck : runIn full remembered 8 .answer ≡ Stuck
+  -- both are ready, thread 1 first
+  pub reversed-ready : queue (tablesAfter reversed 21) ready ≡ 1 ∷ 2 ∷ []
+  pub untested-fault : runIn 1 untested 3 .answer ≡ Faulted 25 2

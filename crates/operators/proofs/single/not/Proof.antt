@@ -1,0 +1,54 @@
+-- `operators::single::not` meets its contract. Assumes nothing.
+use mathlib.Core.Path.{_∙_}
+use native.Mathlib.Omega.{arith}
+use mir.Syntax.{w32}
+use mir.Facts.{toZ-ofZ}
+use Rattle.machine.proofs.Equations.{carries, faults, not-is}
+use Rattle.stack.proofs.Tests.{needs-less, needs-met}
+use borrow.Author.Needs.{needs, sfits-of}
+use Rattle.operators.proofs.single.not.Statement.{statement}
+use Rattle.operators.proofs.single.not.Tie as tie
+
+stop-requires : tie.Need-stop-requires
+stop-requires c κs = search needs
+
+returns : tie.Need-returns
+returns c n tables values =
+    rw (c .stop .ensures) (faults _ n _ _ 21 (not-is _ n _ ∙ needs-less 1 _ _ (omega arith)))
+
+peek-requires : tie.Need-peek-requires
+peek-requires c κs = search needs
+
+is-zero-requires : tie.Need-is-zero-requires
+is-zero-requires c κs = search needs
+
+truth-requires : tie.Need-truth-requires
+truth-requires c κs = search needs
+
+poke-requires : tie.Need-poke-requires
+poke-requires c κs = search needs
+
+advance-requires : tie.Need-advance-requires
+advance-requires c κs = search needs
+
+same-length : tie.Need-same-length
+same-length c = search needs
+
+returns-2 : tie.Need-returns-2
+returns-2 c n tables values =
+    rw (c .advance .ensures, c .before .before .poke .ensures, toZ-ofZ (sfits-of {w = w32} {z = c .before .before .before .before .truth .result} (c .before .before .before .before .truth .ok)), c .before .before .before .before .truth .ensures, c .before .before .before .before .before .is-zero .ensures, toZ-ofZ (sfits-of {w = w32} {z = c .before .before .before .before .before .before .peek .result} (c .before .before .before .before .before .before .peek .ok)), c .before .before .before .before .before .before .peek .ensures)
+    (carries _ n _ _ _ (not-is _ n _ ∙ needs-met 1 _ _ (omega (arith, c .before .before .before .before .before .before .before .before .if1 .left))))
+
+pub not-spec : {M : Type 1} → statement M
+not-spec =
+    tie.close
+    (tie.spec
+    stop-requires
+    returns
+    peek-requires
+    is-zero-requires
+    truth-requires
+    poke-requires
+    advance-requires
+    same-length
+    returns-2)

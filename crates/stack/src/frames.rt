@@ -1,0 +1,42 @@
+// Cells of the running function's frame, by their distance from FP.
+ghost use Rattle.machine.specs.Instructions.{loadr, storer};
+ghost use Rattle.stack.specs.Contract.{Able, Does};
+ghost use lib.ListN.{length};
+use crate::cells::peek;
+use crate::cells::poke;
+use crate::constants::loadc;
+use crate::index::Index;
+use crate::index::offset;
+use machine::Registers;
+
+pub fn loadr(store: &mut [i32], size: usize, r: Registers, k: i32) -> Registers
+    requires { ⌜ Able size r (length (now store)) ⌝ }
+    ensures { λ q. ⌜ Does size (loadr k) (now (store .entry)) r (now (store .exit)) q ⌝ }
+{
+    let cells = r.cells;
+    // No room comes before no such cell.
+    if 127 < cells {
+        return r.stop(22);
+    }
+    let Index::In(i) = offset(r.fp, k, cells) else {
+        return r.stop(23);
+    };
+    let v = peek(store, size, r.thread, i);
+    loadc(store, size, r, v)
+}
+
+pub fn storer(store: &mut [i32], size: usize, r: Registers, k: i32) -> Registers
+    requires { ⌜ Able size r (length (now store)) ⌝ }
+    ensures { λ q. ⌜ Does size (storer k) (now (store .entry)) r (now (store .exit)) q ⌝ }
+{
+    let cells = r.cells;
+    if cells < 1 {
+        return r.stop(21);
+    }
+    let Index::In(i) = offset(r.fp, k, cells) else {
+        return r.stop(23);
+    };
+    let top = peek(store, size, r.thread, cells - 1);
+    poke(store, size, r.thread, i, top);
+    r.advance()
+}

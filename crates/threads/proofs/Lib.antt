@@ -1,0 +1,4 @@
+pub mod Ready
+pub mod Checks
+pub mod Frames
+pub mod Entries

@@ -1,0 +1,25 @@
+-- `threads::turns::block` meets its contract. Assumes nothing.
+use borrow.Author.Needs.{needs}
+use mathlib.Core.Path.{ap, _∙_}
+use Rattle.machine.specs.State.{next}
+use Rattle.threads.proofs.turns.block.Statement.{statement}
+use Rattle.threads.proofs.turns.block.Tie as tie
+
+leave-requires : tie.Need-leave-requires
+leave-requires c κs = search needs
+
+next-requires : tie.Need-next-requires
+next-requires c κs = search needs
+
+same-length : tie.Need-same-length
+same-length c = search needs
+
+returns : tie.Need-returns
+returns c =
+    record {
+      is = λ store values. c .before .before .next .ensures .is store values ∙ ap (next _) (c .before .before .before .before .before .before .leave .ensures .is store values);
+      good = c .before .before .next .ensures .good;
+    }
+
+pub block-spec : {M : Type 1} → statement M
+block-spec = tie.close (tie.spec leave-requires next-requires same-length returns)

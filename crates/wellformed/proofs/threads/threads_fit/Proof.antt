@@ -1,0 +1,54 @@
+-- `wellformed::threads::threads_fit` meets its contract. Assumes nothing.
+use borrow.Author.Tests.{not-true, not-false}
+use native.Mathlib.Omega.{arith}
+use borrow.Author.Needs.{needs}
+use Prim.Native.Nat.{_-_, _≤_}
+use mathlib.Core.Path.{_≡_, sym, _∙_}
+use mathlib.Core.Bool.{true}
+use Rattle.wellformed.proofs.Loops.{every-all, every-more, every-none, every-stop}
+use Rattle.machine.specs.Lists.{every}
+use Rattle.machine.specs.Tables.{tablesOf}
+use Rattle.machine.specs.WellFormed.{threadFits}
+use Rattle.wellformed.proofs.threads.threads_fit.Statement.{statement}
+use Rattle.wellformed.proofs.threads.threads_fit.Tie as tie
+
+abbrev Inv-loop : tie.InvT-loop
+Inv-loop r tables size t₀ t = (t ≤ size) × (every t (threadFits size r (tablesOf size tables)) ≡ true)
+
+abbrev μ-loop : tie.MeasureT-loop
+μ-loop r tables size t₀ t = size - t
+
+loop-holds : tie.Need-loop-holds Inv-loop μ-loop
+loop-holds c = (omega arith, every-none _)
+
+thread-fits-requires : tie.Need-thread-fits-requires Inv-loop μ-loop
+thread-fits-requires c κs = search needs
+
+returns : tie.Need-returns Inv-loop μ-loop
+returns c = sym (every-stop _ _ _ (c .before .before .loop-test .taken) (sym (c .before .thread-fits .ensures) ∙ not-true _ (c .if1 .taken)))
+
+add-t : tie.Need-add-t Inv-loop μ-loop
+add-t c = search needs
+
+loop-less : tie.Need-loop-less Inv-loop μ-loop
+loop-less c = search needs
+
+loop-again : tie.Need-loop-again Inv-loop μ-loop
+loop-again c = (omega arith, every-more _ _ (c .before .before .before .loop .inv .1) (sym (c .before .thread-fits .ensures) ∙ not-false _ (c .if1 .left)))
+
+returns-2 : tie.Need-returns-2 Inv-loop μ-loop
+returns-2 c = sym (every-all _ _ _ (c .before .loop .inv .0) (c .loop-test .left) (c .before .loop .inv .1))
+
+pub threads-fit-spec : {M : Type 1} → statement M
+threads-fit-spec =
+    tie.close
+    (tie.spec
+    Inv-loop
+    μ-loop
+    loop-holds
+    thread-fits-requires
+    returns
+    add-t
+    loop-less
+    loop-again
+    returns-2)

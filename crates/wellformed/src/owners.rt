@@ -1,0 +1,32 @@
+// Each mutex's owner: a thread that was made, or none; none of a mutex that was not made.
+ghost use mathlib.Core.Path.{_≡_};
+ghost use Prim.Native.Nat.{_*_, _<_};
+ghost use Rattle.machine.specs.Lists.{every};
+ghost use Rattle.machine.specs.Tables.{tablesOf};
+ghost use Rattle.machine.specs.WellFormed.{ownerFits};
+ghost use Rattle.tables.specs.Good.{Good};
+use machine::Mutex;
+use machine::Registers;
+
+fn owner_fits(r: Registers, tables: &[usize], size: usize, m: usize) -> bool
+    requires { ⌜ Good size (now tables) ⌝ }
+    requires { ⌜ m < 2 * size ⌝ }
+    ensures { λ b. ⌜ b ≡ ownerFits size r (tablesOf size (now (tables .entry))) m ⌝ }
+{
+    let owner = tables::owner(tables, size, Mutex(m));
+    owner == size || m < r.mutexes && owner < r.threads
+}
+
+pub fn owners_fit(r: Registers, tables: &[usize], size: usize) -> bool
+    requires { ⌜ Good size (now tables) ⌝ }
+    ensures { λ b. ⌜ b ≡ every (2 * size) (ownerFits size r (tablesOf size (now (tables .entry)))) ⌝ }
+{
+    let mut m = 0;
+    while m < 2 * size {
+        if !owner_fits(r, tables, size, m) {
+            return false;
+        }
+        m += 1;
+    }
+    true
+}

@@ -1,0 +1,45 @@
+// The registers' ranges. A chain of tests is grouped as in its definition.
+ghost use mathlib.Core.Path.{_≡_};
+ghost use Prim.Native.Nat.{_≤_};
+ghost use Rattle.machine.specs.WellFormed.{countsFit, faultFits, frameFits, inRange, registersFit};
+use machine::Registers;
+
+fn in_range(low: usize, high: usize, x: usize) -> bool
+    ensures { λ b. ⌜ b ≡ inRange low high x ⌝ }
+{
+    low <= x && x <= high
+}
+
+fn counts_fit(r: Registers, size: usize) -> bool
+    requires { ⌜ size ≤ 32 ⌝ }
+    ensures { λ b. ⌜ b ≡ countsFit size r ⌝ }
+{
+    in_range(1, size, r.threads) && (r.mutexes <= 2 * size && r.conditions <= 2 * size)
+}
+
+// PC, the number of cells and FP, of the registers or of a saved thread.
+pub fn frame_fits(pc: usize, cells: usize, fp: usize) -> bool
+    ensures { λ b. ⌜ b ≡ frameFits pc cells fp ⌝ }
+{
+    pc <= 4096 && (cells <= 128 && in_range(2, 127, fp))
+}
+
+pub fn registers_fit(r: Registers, size: usize) -> bool
+    requires { ⌜ size ≤ 32 ⌝ }
+    ensures { λ b. ⌜ b ≡ registersFit size r ⌝ }
+{
+    counts_fit(r, size)
+        && (frame_fits(r.pc, r.cells, r.fp)
+            && (in_range(1, 128 * size, r.free) && (r.thread < r.threads || r.thread == size)))
+}
+
+// A faulted machine has the number of its fault, any other has none.
+pub fn fault_fits(r: Registers) -> bool
+    ensures { λ b. ⌜ b ≡ faultFits r ⌝ }
+{
+    if r.state == 3 {
+        in_range(20, 30, r.fault)
+    } else {
+        r.fault == 0
+    }
+}
