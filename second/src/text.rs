@@ -1,0 +1,196 @@
+//! What is printed: the runner's line, the state line, a listing of a card; and the framing of a
+//! stream of images. README.md says the same formats in words.
+
+use crate::machine::{read, Machine, Mistake, Op, Refusal, State, SHARED, STACK, THREADS};
+use std::collections::VecDeque;
+use std::fmt::Write as _;
+use std::io::{self, Read, Write};
+
+/// The runner looks at so many bytes of its input at most.
+pub const INPUT: usize = 16394;
+/// The runner makes so many steps at most.
+pub const STEPS: u64 = 1_000_000;
+
+/// The runner's line for an input, without the line feed.
+pub fn runner_line(input: &[u8], mistake: Option<Mistake>) -> String {
+    let image = &input[..input.len().min(INPUT)];
+    match read(image) {
+        Err(refusal) => refusal_line(refusal),
+        Ok(card) => {
+            let mut machine = Machine::with_mistake(&card, mistake);
+            let steps = machine.run(STEPS);
+            end_line(&machine, steps)
+        }
+    }
+}
+
+/// The line for a refused image.
+pub fn refusal_line(refusal: Refusal) -> String {
+    format!("refused {} {}", refusal.number, refusal.place)
+}
+
+/// The runner's line for a machine that has made so many steps.
+pub fn end_line(machine: &Machine, steps: u64) -> String {
+    match machine.state {
+        State::Halted => match machine.threads[0].result {
+            Some(result) => format!("halted {steps} {result}"),
+            None => format!("halted {steps} -"),
+        },
+        State::Stuck => format!("stuck {steps}"),
+        State::Faulted => {
+            let thread = machine.last;
+            format!(
+                "fault {} {} {} {}",
+                machine.fault, thread, machine.threads[thread].pc, steps
+            )
+        }
+        State::Running => format!("running {steps}"),
+    }
+}
+
+/// The whole state as one line, without the line feed.
+pub fn state_line(machine: &Machine) -> String {
+    let mut line = String::with_capacity(160);
+    let last = &machine.threads[machine.last];
+    let _ = write!(
+        line,
+        "{} {} {} {} {} {} {} {} {} {} {:016x} r:",
+        machine.state as u8,
+        machine.fault,
+        machine.running.unwrap_or(THREADS),
+        last.pc,
+        last.cells,
+        last.fp,
+        machine.free,
+        machine.threads.len(),
+        machine.mutexes.len(),
+        machine.conditions.len(),
+        store_hash(machine),
+    );
+    write_queue(&mut line, &machine.ready);
+    let mut write_waiters = |letter: char, number: usize, queue: &VecDeque<usize>| {
+        if !queue.is_empty() {
+            let _ = write!(line, " {letter}{number}:");
+            write_queue(&mut line, queue);
+        }
+    };
+    for (m, mutex) in machine.mutexes.iter().enumerate() {
+        write_waiters('m', m, &mutex.waiters);
+    }
+    for (c, condition) in machine.conditions.iter().enumerate() {
+        write_waiters('c', c, &condition.waiters);
+    }
+    for (t, thread) in machine.threads.iter().enumerate() {
+        write_waiters('e', t, &thread.joiners);
+    }
+    for (m, mutex) in machine.mutexes.iter().enumerate() {
+        if let Some(owner) = mutex.owner {
+            let _ = write!(line, " o{m}={owner}");
+        }
+    }
+    for (t, thread) in machine.threads.iter().enumerate() {
+        if thread.result.is_none() && machine.running != Some(t) {
+            let _ = write!(line, " s{t}=({},{},{})", thread.pc, thread.cells, thread.fp);
+        }
+    }
+    for (t, thread) in machine.threads.iter().enumerate() {
+        if let Some(result) = thread.result {
+            let _ = write!(line, " v{t}={result}");
+        }
+    }
+    line
+}
+
+fn write_queue(line: &mut String, queue: &VecDeque<usize>) {
+    line.push('[');
+    for (i, thread) in queue.iter().enumerate() {
+        if i > 0 {
+            line.push(',');
+        }
+        let _ = write!(line, "{thread}");
+    }
+    line.push(']');
+}
+
+/// The store's hash: the 64-bit FNV-1a step taken once for each of the 8,192 cells, in order.
+pub fn store_hash(machine: &Machine) -> u64 {
+    const START: u64 = 0xcbf2_9ce4_8422_2325;
+    const PRIME: u64 = 0x0000_0100_0000_01b3;
+    let mut hash = START;
+    let mut take = |cell: i32| hash = (hash ^ cell as u32 as u64).wrapping_mul(PRIME);
+    assert_eq!(machine.shared.len(), SHARED);
+    for &cell in &machine.shared {
+        take(cell);
+    }
+    for t in 0..THREADS {
+        for i in 0..STACK {
+            // The stack of a thread that isn't made is all zeros.
+            take(machine.threads.get(t).map_or(0, |thread| thread.stack[i]));
+        }
+    }
+    hash
+}
+
+/// The state lines of one image: after set-up and after every step, up to `steps` steps or until
+/// the machine stops; or the line of its refusal. Each line goes to `out` as it comes.
+pub fn trace(
+    image: &[u8],
+    steps: u64,
+    mistake: Option<Mistake>,
+    out: &mut dyn FnMut(&str) -> io::Result<()>,
+) -> io::Result<()> {
+    match read(image) {
+        Err(refusal) => out(&refusal_line(refusal)),
+        Ok(card) => {
+            let mut machine = Machine::with_mistake(&card, mistake);
+            out(&state_line(&machine))?;
+            for _ in 0..steps {
+                if machine.state != State::Running {
+                    break;
+                }
+                machine.step();
+                out(&state_line(&machine))?;
+            }
+            Ok(())
+        }
+    }
+}
+
+/// A card as text: one line for the header and one for each instruction; or its refusal.
+pub fn listing(image: &[u8]) -> String {
+    match read(image) {
+        Err(refusal) => format!("{} of {} bytes\n", refusal_line(refusal), image.len()),
+        Ok(card) => {
+            let mut text = format!("g {} n {}\n", card.globals, card.code.len());
+            for (i, instruction) in card.code.iter().enumerate() {
+                let _ = write!(text, "{i:5}  {}", instruction.op.name());
+                if matches!(
+                    instruction.op,
+                    Op::Loadc | Op::Loadr | Op::Storer | Op::Alloc | Op::Jump | Op::Jumpz
+                ) {
+                    let _ = write!(text, " {}", instruction.k);
+                }
+                text.push('\n');
+            }
+            text
+        }
+    }
+}
+
+/// Writes one image of a stream: its length in 4 bytes, big-endian, then the image.
+pub fn write_frame(out: &mut dyn Write, image: &[u8]) -> io::Result<()> {
+    out.write_all(&(image.len() as u32).to_be_bytes())?;
+    out.write_all(image)
+}
+
+/// Reads the next image of a stream, or nothing at its end.
+pub fn read_frame(input: &mut dyn Read) -> io::Result<Option<Vec<u8>>> {
+    let mut length = [0; 4];
+    match input.read(&mut length[..1])? {
+        0 => return Ok(None),
+        _ => input.read_exact(&mut length[1..])?,
+    }
+    let mut image = vec![0; u32::from_be_bytes(length) as usize];
+    input.read_exact(&mut image)?;
+    Ok(Some(image))
+}

@@ -1,0 +1,83 @@
+//! The generator: the same cards from the same seed, good ones where they should be good, all
+//! instructions and faults reached, and each of the five errors found.
+
+use second::cards::{card, Kind};
+use second::machine::{read, Machine, Op, State};
+use second::selftest::selftest;
+use second::text::{read_frame, runner_line, write_frame};
+
+const SEED: u64 = 1;
+const COUNT: u64 = 3000;
+
+#[test]
+fn the_same_again_and_good_unless_damaged() {
+    for index in 0..COUNT {
+        let (kind, image) = card(SEED, index);
+        assert_eq!(card(SEED, index), (kind, image.clone()));
+        assert!(
+            kind == Kind::Damaged || read(&image).is_ok(),
+            "card {index}"
+        );
+    }
+    assert_ne!(card(SEED, 0), card(SEED + 1, 0));
+}
+
+#[test]
+fn all_instructions_and_faults_are_reached() {
+    let mut carried_out = [false; Op::ALL.len()];
+    let mut faults = [false; 31];
+    let mut refusals = [false; 6];
+    for index in 0..COUNT {
+        let image = card(SEED, index).1;
+        let card = match read(&image) {
+            Ok(card) => card,
+            Err(refusal) => {
+                refusals[refusal.number as usize] = true;
+                continue;
+            }
+        };
+        let mut machine = Machine::new(&card);
+        for _ in 0..2000 {
+            let pc = machine.threads[machine.last].pc;
+            if !machine.step() {
+                break;
+            }
+            carried_out[card.code[pc].op as usize] = true;
+        }
+        if machine.state == State::Faulted {
+            faults[machine.fault as usize] = true;
+        }
+    }
+    assert!(
+        carried_out.iter().all(|&reached| reached),
+        "{carried_out:?}"
+    );
+    assert!(faults[20..].iter().all(|&reached| reached), "{faults:?}");
+    assert!(refusals[1..].iter().all(|&reached| reached), "{refusals:?}");
+}
+
+#[test]
+fn each_error_is_found() {
+    let (report, found) = selftest(SEED, 300);
+    assert!(found, "{report}");
+}
+
+#[test]
+fn frames_come_back() {
+    let images: Vec<Vec<u8>> = (0..50).map(|index| card(SEED, index).1).collect();
+    let mut stream = Vec::new();
+    for image in &images {
+        write_frame(&mut stream, image).unwrap();
+    }
+    write_frame(&mut stream, &[]).unwrap();
+    let mut input = &stream[..];
+    for image in &images {
+        assert_eq!(read_frame(&mut input).unwrap().as_ref(), Some(image));
+    }
+    assert_eq!(read_frame(&mut input).unwrap(), Some(Vec::new()));
+    assert_eq!(read_frame(&mut input).unwrap(), None);
+    // A stream that is cut off within a frame is an error, not an end.
+    assert!(read_frame(&mut &stream[..3]).is_err());
+    assert!(read_frame(&mut &stream[..20]).is_err());
+    assert_eq!(runner_line(&[], None), "refused 1 0");
+}

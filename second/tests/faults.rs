@@ -1,0 +1,363 @@
+//! Both sides of every fault, and which comes first where an instruction could give two.
+
+mod common;
+
+use common::{check, line, machine};
+use second::machine::State;
+
+/// The greatest and the least number of 32 bits, as instructions that push it.
+const MAX: &str = "loadc 8388607, loadc 256, mul, loadc 255, add";
+const MIN: &str = "loadc -8388608, loadc 256, mul";
+
+#[test]
+fn fault_20() {
+    check(&[
+        ("yield", "fault 20 0 1 1"),
+        ("mark", "fault 20 0 1 1"),
+        ("jump 1, exit", "halted 2 -1"),
+        // Another thread than 0 falls off the card.
+        ("loadc 4, loadc 0, create, yield, mark", "fault 20 1 5 5"),
+        // A call as the last instruction pushes n, which return doesn't take.
+        (
+            "jump 2, return, loadc 1, mark, loadc 1, call",
+            "fault 26 0 1 5",
+        ),
+    ]);
+}
+
+#[test]
+fn fault_21() {
+    // One cell is needed: with none it is 21, whatever else could be wrong.
+    for op in [
+        "load",
+        "storer 0",
+        "storer -128",
+        "pop",
+        "dup",
+        "neg",
+        "not",
+        "jumpz 0",
+        "new",
+        "exit",
+        "join",
+        "finalize",
+        "lock",
+        "unlock",
+        "signal",
+        "broadcast",
+    ] {
+        assert_eq!(
+            line(&format!("3*pop, {op}, halt")),
+            "fault 21 0 3 3",
+            "{op}"
+        );
+        assert_ne!(
+            line(&format!("2*pop, {op}, halt")),
+            "fault 21 0 2 2",
+            "{op}"
+        );
+    }
+    // Two are needed; with one whose number would also be wrong it is 21 too.
+    for op in [
+        "store", "add", "sub", "mul", "div", "mod", "eq", "neq", "less", "leq", "create", "wait",
+    ] {
+        assert_eq!(
+            line(&format!("3*pop, loadc -5, {op}")),
+            "fault 21 0 4 4",
+            "{op}"
+        );
+        assert_eq!(line(&format!("3*pop, {op}")), "fault 21 0 3 3", "{op}");
+        assert_ne!(line(&format!("pop, {op}")), "fault 21 0 1 1", "{op}");
+    }
+    // Call needs three; return none.
+    check(&[
+        ("2*pop, loadc 0, call", "fault 21 0 3 3"),
+        ("2*pop, loadc -1, call", "fault 21 0 3 3"),
+        ("pop, loadc 3, call, halt", "halted 4 -"),
+        ("pop, loadc -1, call", "fault 25 0 2 2"),
+        ("3*pop, return", "fault 26 0 3 3"),
+        ("3*pop, loadr 0", "fault 23 0 3 3"),
+        ("3*pop, loadr -2", "fault 23 0 3 3"),
+    ]);
+}
+
+#[test]
+fn fault_22() {
+    // 127 cells leave room for one, 128 for none. The last word could also give 23.
+    for op in [
+        "loadc 1", "dup", "mark", "newmutex", "newcond", "alloc 1", "loadr 0",
+    ] {
+        assert_eq!(
+            line(&format!("alloc 124, {op}, halt")),
+            "halted 3 -",
+            "{op}"
+        );
+        assert_eq!(
+            line(&format!("alloc 125, {op}, halt")),
+            "fault 22 0 1 1",
+            "{op}"
+        );
+    }
+    check(&[
+        ("alloc 125, alloc 0, halt", "halted 3 -"),
+        ("alloc 123, alloc 2, halt", "halted 3 -"),
+        ("alloc 123, alloc 3, halt", "fault 22 0 1 1"),
+        ("alloc 126", "fault 22 0 0 0"),
+        ("alloc 127", "fault 22 0 0 0"),
+        // 22 before 23.
+        ("alloc 125, loadr 127", "fault 22 0 1 1"),
+        ("alloc 125, loadr -3", "fault 22 0 1 1"),
+        ("alloc 124, loadr -3", "fault 23 0 1 1"),
+        // Nothing of these pushes.
+        ("alloc 125, load, loadc 5", "fault 22 0 2 2"),
+        ("alloc 125, storer 125, halt", "halted 3 -"),
+    ]);
+}
+
+#[test]
+fn fault_23() {
+    check(&[
+        ("loadc 0, load, exit", "halted 3 0"),
+        ("loadc 4095, load, exit", "halted 3 0"),
+        ("loadc 4096, load", "fault 23 0 1 1"),
+        ("loadc -1, load", "fault 23 0 1 1"),
+        (
+            "loadc 7, loadc 4095, store, loadc 4095, load, exit",
+            "halted 6 7",
+        ),
+        ("loadc 7, loadc 0, store, exit", "halted 4 7"),
+        ("loadc 7, loadc 4096, store", "fault 23 0 2 2"),
+        ("loadc 7, loadc -1, store", "fault 23 0 2 2"),
+        // FP is 2, SP too: cells 0 to 2.
+        ("loadr -3", "fault 23 0 0 0"),
+        ("loadr -2, exit", "halted 2 0"),
+        ("loadr 0, exit", "halted 2 -1"),
+        ("loadr 1", "fault 23 0 0 0"),
+        ("loadc 9, storer -3", "fault 23 0 1 1"),
+        ("loadc 9, storer -2, return", "halted 3 9"),
+        ("loadc 9, storer 1, exit", "halted 3 9"),
+        ("loadc 9, storer 2", "fault 23 0 1 1"),
+        ("3*pop, storer -2", "fault 21 0 3 3"),
+        ("2*pop, storer -2, exit", "halted 4 0"),
+        ("2*pop, storer -1", "fault 23 0 2 2"),
+    ]);
+}
+
+#[test]
+fn fault_24() {
+    let rows = [
+        (format!("{MAX}, exit"), "halted 6 2147483647"),
+        (format!("{MIN}, exit"), "halted 4 -2147483648"),
+        (format!("{MAX}, loadc 1, add"), "fault 24 0 6 6"),
+        (format!("{MAX}, loadc -1, add, exit"), "halted 8 2147483646"),
+        (format!("{MIN}, loadc -1, add"), "fault 24 0 4 4"),
+        (format!("{MIN}, loadc 1, sub"), "fault 24 0 4 4"),
+        (format!("{MIN}, loadc 1, add, exit"), "halted 6 -2147483647"),
+        (format!("{MAX}, loadc -1, sub"), "fault 24 0 6 6"),
+        (format!("loadc -1, {MIN}, sub, exit"), "halted 6 2147483647"),
+        (format!("loadc 0, {MIN}, sub"), "fault 24 0 4 4"),
+        ("loadc 46340, dup, mul, exit".into(), "halted 4 2147395600"),
+        ("loadc 46341, dup, mul".into(), "fault 24 0 2 2"),
+        (format!("{MIN}, loadc -1, mul"), "fault 24 0 4 4"),
+        (format!("{MIN}, loadc 1, mul, exit"), "halted 6 -2147483648"),
+        (format!("{MIN}, loadc -1, div"), "fault 24 0 4 4"),
+        (format!("{MIN}, loadc -1, mod, exit"), "halted 6 0"),
+        (format!("{MIN}, loadc 1, div, exit"), "halted 6 -2147483648"),
+        (
+            format!("{MAX}, loadc -1, div, exit"),
+            "halted 8 -2147483647",
+        ),
+        ("loadc 5, loadc 0, div".into(), "fault 24 0 2 2"),
+        ("loadc 5, loadc 0, mod".into(), "fault 24 0 2 2"),
+        ("loadc -7, loadc 2, div, exit".into(), "halted 4 -3"),
+        ("loadc -7, loadc 2, mod, exit".into(), "halted 4 -1"),
+        ("loadc 7, loadc -2, div, exit".into(), "halted 4 -3"),
+        ("loadc 7, loadc -2, mod, exit".into(), "halted 4 1"),
+        ("loadc 7, loadc 2, sub, exit".into(), "halted 4 5"),
+        (format!("{MIN}, neg"), "fault 24 0 3 3"),
+        (format!("{MAX}, neg, exit"), "halted 7 -2147483647"),
+        (format!("{MIN}, {MAX}, less, exit"), "halted 10 1"),
+        (format!("{MAX}, {MIN}, leq, exit"), "halted 10 0"),
+        ("loadc 0, not, exit".into(), "halted 3 1"),
+        ("loadc -4, not, exit".into(), "halted 3 0"),
+    ];
+    for (text, expected) in rows {
+        assert_eq!(line(&text), expected, "{text}");
+    }
+}
+
+#[test]
+fn fault_25() {
+    check(&[
+        ("loadc 3, mark, loadc -1, call", "fault 25 0 3 3"),
+        ("loadc 3, mark, loadc 4, call", "fault 25 0 3 3"),
+        // 41 rounds of 3 cells fill 126; two more, and there is no room for the third.
+        ("loadc 3, mark, loadc 0, call, halt", "fault 22 0 2 166"),
+        ("loadc 3, mark, loadc @-1, call, halt", "halted 5 -"),
+        ("loadc -1, loadc 9, create", "fault 25 0 2 2"),
+        ("loadc @0, loadc 9, create, halt", "fault 25 0 2 2"),
+        ("loadc @-1, loadc 9, create, halt", "halted 4 -"),
+        ("loadc 0, loadc 9, create, halt", "halted 4 -"),
+    ]);
+    // 25 is tested before the room is looked for.
+    let full = "loadc 0, loadc 0, create, pop, ".repeat(31);
+    assert_eq!(
+        line(&format!("{full} loadc @0, loadc 9, create, exit")),
+        "fault 25 0 126 126"
+    );
+    assert_eq!(
+        line(&format!("{full} loadc -1, loadc 9, create, exit")),
+        "fault 25 0 126 126"
+    );
+    let mut m = machine(&format!("{full} loadc @-1, loadc 9, create, exit"));
+    m.run(128);
+    assert_eq!((m.state, m.threads[0].result), (State::Running, Some(-1)));
+}
+
+#[test]
+fn fault_26() {
+    check(&[
+        // FP over SP.
+        ("pop, return", "fault 26 0 1 1"),
+        ("return", "halted 1 0"),
+        // Cell FP - 1 is -1, or 2 to FP - 1. At -1 cell FP isn't looked at.
+        ("loadc -2, storer -1, return", "fault 26 0 2 2"),
+        ("loadc 0, storer -1, return", "fault 26 0 2 2"),
+        ("loadc 1, storer -1, return", "fault 26 0 2 2"),
+        ("loadc 2, storer -1, return", "fault 26 0 2 2"),
+        (
+            "loadc -1, storer -1, loadc 77, storer 0, return",
+            "halted 5 0",
+        ),
+        ("loadc 5, mark, loadc 5, call, exit, return", "halted 6 5"),
+        // In a frame at FP 5: 4 goes, 5 doesn't, 1 doesn't.
+        (
+            "loadc 5, mark, loadc 5, call, exit, loadc 4, storer -1, return",
+            "halted 8 5",
+        ),
+        (
+            "loadc 5, mark, loadc 5, call, exit, loadc 5, storer -1, return",
+            "fault 26 0 7 6",
+        ),
+        (
+            "loadc 5, mark, loadc 5, call, exit, loadc 1, storer -1, return",
+            "fault 26 0 7 6",
+        ),
+        (
+            "loadc 5, mark, loadc 5, call, exit, loadc -1, storer -1, return",
+            "halted 7 5",
+        ),
+        // Cell FP is 0 to n - 1.
+        (
+            "loadc 5, mark, loadc 5, call, exit, loadc @-1, storer 0, return, halt",
+            "halted 8 -",
+        ),
+        (
+            "loadc 5, mark, loadc 5, call, exit, loadc @0, storer 0, return, halt",
+            "fault 26 0 7 6",
+        ),
+        (
+            "loadc 5, mark, loadc 5, call, exit, loadc -1, storer 0, return, halt",
+            "fault 26 0 7 6",
+        ),
+        // After the call the result is in the argument's place; FP may be over SP by one.
+        (
+            "loadc 5, mark, loadc 5, call, exit, loadc 9, storer -2, return",
+            "halted 8 9",
+        ),
+    ]);
+}
+
+#[test]
+fn fault_27() {
+    check(&[
+        ("newmutex, lock, halt", "halted 3 -"),
+        ("newmutex, pop, loadc 1, lock", "fault 27 0 3 3"),
+        ("newmutex, pop, loadc -1, lock", "fault 27 0 3 3"),
+        ("newcond, lock", "fault 27 0 1 1"),
+        ("newcond, unlock", "fault 27 0 1 1"),
+        ("newmutex, pop, loadc 1, unlock", "fault 27 0 3 3"),
+        ("newmutex, signal", "fault 27 0 1 1"),
+        ("newmutex, broadcast", "fault 27 0 1 1"),
+        ("newcond, signal, halt", "halted 3 -"),
+        ("newcond, broadcast, halt", "halted 3 -"),
+        ("loadc 1, join", "fault 27 0 1 1"),
+        ("loadc -1, join", "fault 27 0 1 1"),
+        ("loadc 1, finalize", "fault 27 0 1 1"),
+        ("loadc 32, join", "fault 27 0 1 1"),
+        // wait: no condition, no mutex; and 27 before 28.
+        (
+            "newmutex, dup, lock, loadc 0, loadc 0, wait",
+            "fault 27 0 5 5",
+        ),
+        ("newcond, loadc 0, loadc 0, wait", "fault 27 0 3 3"),
+        ("newmutex, newcond, wait", "fault 28 0 2 2"),
+        ("newmutex, loadc 0, wait", "fault 27 0 2 2"),
+        ("newmutex, dup, lock, loadc 0, newcond, wait", "stuck 6"),
+    ]);
+}
+
+#[test]
+fn fault_28() {
+    check(&[
+        ("newmutex, dup, lock, loadc 0, unlock, halt", "halted 6 -"),
+        ("newmutex, unlock", "fault 28 0 1 1"),
+        // Thread 0 locks, thread 1 unlocks, or waits.
+        (
+            "newmutex, dup, lock, loadc 7, loadc 0, create, yield, loadc 0, unlock",
+            "fault 28 1 8 8",
+        ),
+        (
+            "newmutex, dup, lock, newcond, loadc 8, loadc 0, create, yield, loadc 0, loadc 0, wait",
+            "fault 28 1 10 10",
+        ),
+        // Unlocked twice.
+        (
+            "newmutex, dup, lock, loadc 0, unlock, loadc 0, unlock",
+            "fault 28 0 6 6",
+        ),
+    ]);
+}
+
+#[test]
+fn fault_29() {
+    check(&[
+        ("loadc 0, finalize", "fault 29 0 1 1"),
+        (
+            "loadc 5, loadc 7, create, finalize, halt, exit",
+            "fault 29 0 3 3",
+        ),
+        (
+            "loadc 6, loadc 7, create, join, finalize, exit, return",
+            "halted 7 7",
+        ),
+    ]);
+}
+
+#[test]
+fn fault_30() {
+    check(&[
+        ("loadc 1, new, exit", "halted 3 1"),
+        ("loadc 0, new", "fault 30 0 1 1"),
+        ("loadc -1, new", "fault 30 0 1 1"),
+    ]);
+}
+
+#[test]
+fn a_fault_changes_nothing_but_the_state() {
+    let mut m = machine("newmutex, dup, lock, loadc 5, loadc 0, lock, jump 0");
+    m.run(3);
+    let mut faulty = machine("newmutex, dup, lock, loadc 1, unlock");
+    assert_eq!(faulty.run(9), 4);
+    assert_eq!((faulty.state, faulty.fault), (State::Faulted, 27));
+    assert_eq!((faulty.threads[0].pc, faulty.threads[0].cells), (4, 5));
+    assert_eq!(faulty.mutexes[0].owner, Some(0));
+    // A step on a machine that doesn't run changes nothing and counts nothing.
+    let before = format!("{faulty:?}");
+    assert!(!faulty.step());
+    assert_eq!(faulty.run(10), 0);
+    assert_eq!(format!("{faulty:?}"), before);
+    // Runs of a and b equal one of a + b.
+    assert_eq!(m.run(2) + m.run(4), 3);
+    assert_eq!(m.state, State::Stuck);
+}
