@@ -1,1 +1,2 @@
 pub mod SetUps
+pub mod Called

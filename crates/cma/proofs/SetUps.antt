@@ -9,6 +9,7 @@ use borrow.Author.Tests.{eq-eqb, ne-eqb}
 use Rattle.card.specs.Image.{readOf}
 use Rattle.card.specs.declared.reader.Reading.{Reading}
 use Rattle.card.specs.declared.reader.Reading.the-variants as reading
+use Rattle.engine.specs.Contract.{boxed}
 use Rattle.machine.specs.Calls.{Box, Called, boxOf, refusedSetUp, setUp}
 use Rattle.machine.specs.Registers.{zeros}
 use Rattle.machine.specs.State.{start}
@@ -16,7 +17,7 @@ use Rattle.machine.specs.Tables.{sliceOf}
 use Rattle.machine.specs.declared.answers.Answer.the-variants.{Running}
 use Rattle.machine.specs.declared.registers.Registers.{Registers}
 use Rattle.setup.specs.Start.{Started}
-use Rattle.cma.specs.Outcome.{Gives, boxed, refusal}
+use Rattle.cma.specs.Outcome.{Gives, refusal}
 use Rattle.cma.specs.declared.results.Outcome.{Outcome}
 
 module _ (size : ℕ) (image : List ℕ) (store : List ℤ) (tables : List ℕ) (values : List ℤ) where

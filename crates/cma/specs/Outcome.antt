@@ -3,18 +3,18 @@ use Prim.Native.Nat.{ℕ}
 use mathlib.Core.List.{List}
 use mathlib.Core.Path.{_≡_}
 use lib.IntN.{ℤ}
-use Rattle.machine.specs.Calls.{Box, Called, countOf}
+use Rattle.machine.specs.Calls.{Called, answerOf, countOf}
 use Rattle.machine.specs.declared.answers.Answer.the-variants.{Refused}
 use Rattle.machine.specs.declared.registers.Registers.{Registers}
 use Rattle.cma.specs.declared.results.Outcome.{Outcome}
 
--- what a call is lent, with its registers
-abbrev pub boxed : List ℤ → List ℕ → List ℤ → Registers → Box
-boxed store tables values r = record { store = store; tables = tables; values = values; regs = r }
-
 -- a refusal, with the registers that come back
 abbrev pub refusal : ℕ → ℕ → Registers → Outcome
 refusal number place r = record { answer = Refused number place; count = 0; registers = r }
+
+-- what a call gives that was not refused
+abbrev pub outcomeOf : Registers → ℕ → Outcome
+outcomeOf r count = record { answer = answerOf r; count = count; registers = r }
 
 pub record Gives (called : Called) (outcome : Outcome) (store : List ℤ) (tables : List ℕ) (values : List ℤ) : Type 0 where
   pub answered : outcome .answer ≡ called .answer

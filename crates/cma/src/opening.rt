@@ -1,6 +1,7 @@
 // Setting up a machine for a card.
 ghost use Prim.Native.Nat.{_≤_};
-ghost use Rattle.cma.specs.Outcome.{Gives, boxed};
+ghost use Rattle.cma.specs.Outcome.{Gives};
+ghost use Rattle.engine.specs.Contract.{boxed};
 ghost use Rattle.machine.specs.Calls.{setUp};
 ghost use Rattle.machine.specs.Registers.{zeros};
 ghost use Rattle.machine.specs.Size.{full};

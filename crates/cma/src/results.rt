@@ -1,6 +1,7 @@
 // What a call gives back: its answer, the number of instructions carried out, and the registers.
 ghost use mathlib.Core.Path.{_≡_};
-ghost use Rattle.cma.specs.Outcome.{refusal};
+ghost use Rattle.cma.specs.Outcome.{outcomeOf, refusal};
+ghost use Rattle.machine.specs.Calls.{answerOf};
 ghost use Rattle.machine.specs.Registers.{zeros};
 use machine::Answer;
 use machine::Registers;
@@ -37,5 +38,36 @@ pub fn no_registers() -> Registers
         threads: 0,
         mutexes: 0,
         conditions: 0,
+    }
+}
+
+// The state of a machine as a call answers it.
+pub fn answer_of(r: Registers) -> Answer
+    ensures { λ a. ⌜ a ≡ answerOf r ⌝ }
+{
+    let state = r.state;
+    if state == 1 {
+        return Answer::Running;
+    }
+    if state == 2 {
+        return Answer::Stuck;
+    }
+    if state == 3 {
+        return Answer::Faulted {
+            number: r.fault,
+            place: r.pc,
+        };
+    }
+    Answer::Halted
+}
+
+// A call that was not refused.
+pub fn ended(registers: Registers, count: usize) -> Outcome
+    ensures { λ o. ⌜ o ≡ outcomeOf registers count ⌝ }
+{
+    Outcome {
+        answer: answer_of(registers),
+        count,
+        registers,
     }
 }

@@ -1,6 +1,5 @@
 // Mutexes: who owns one, and who waits for it.
 ghost use Prim.Native.Nat.{_*_, _<_};
-ghost use mathlib.Core.Path.{_≡_};
 ghost use lib.ListN.{length};
 ghost use Rattle.machine.specs.Instructions.{lock, newmutex, unlock};
 ghost use Rattle.machine.specs.Tables.{tablesOf, unlocked};

@@ -1,7 +1,6 @@
 -- `threads::returns::return_from` meets its contract. Assumes nothing.
 use Prim.Native.Nat.{_-_}
 use mathlib.Core.Path.{_≡_, ap, sym, _∙_}
-use native.Mathlib.Omega.{arith}
 use borrow.Author.Needs.{sfits-of, needs}
 use denote.Ref.{now}
 use lib.IntN.{pos}

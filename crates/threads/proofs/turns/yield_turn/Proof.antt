@@ -1,7 +1,6 @@
 -- `threads::turns::yield_turn` meets its contract. Assumes nothing.
 use borrow.Author.Needs.{needs}
 use mathlib.Core.Path.{_∙_}
-use native.Mathlib.Omega.{arith}
 use Rattle.machine.proofs.Equations.{carries, yield-is}
 use Rattle.threads.proofs.turns.yield_turn.Statement.{statement}
 use Rattle.threads.proofs.turns.yield_turn.Tie as tie

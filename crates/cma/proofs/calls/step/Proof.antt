@@ -1,0 +1,27 @@
+-- `cma::calls::step` meets its contract. Assumes nothing.
+use mathlib.Core.Path.{_≡_, refl, sym, ap, _∙_}
+use borrow.Author.Needs.{needs}
+use denote.Ref.{now}
+use Rattle.engine.specs.Contract.{boxed}
+use Rattle.machine.proofs.Runs.{step-is-run}
+use Rattle.machine.specs.Size.{full}
+use Rattle.cma.proofs.calls.step.Statement.{statement}
+use Rattle.cma.proofs.calls.step.Tie as tie
+
+run-box-requires : tie.Need-run-box-requires
+run-box-requires c κs = search needs
+
+same-length : tie.Need-same-length
+same-length c = search needs
+
+same-length-2 : tie.Need-same-length-2
+same-length-2 c = search needs
+
+same-length-3 : tie.Need-same-length-3
+same-length-3 c = search needs
+
+returns : tie.Need-returns
+returns c = rw (step-is-run full (now (c .before .before .before .before .before .before .before .before .before .before .args .image)) (boxed (now (c .before .before .before .before .before .before .before .before .before .before .args .store)) (now (c .before .before .before .before .before .before .before .before .before .before .args .tables)) (now (c .before .before .before .before .before .before .before .before .before .before .args .values)) (c .before .before .before .before .before .before .before .before .before .before .args .r))) (c .before .before .before .before .run-box .ensures)
+
+pub step-spec : {M : Type 1} → statement M
+step-spec = tie.close (tie.spec run-box-requires same-length same-length-2 same-length-3 returns)

@@ -1,0 +1,14 @@
+-- `cma::results::ended` meets its contract. Assumes nothing.
+use mathlib.Core.Path.{_≡_, refl, sym, ap, _∙_}
+use borrow.Author.Needs.{needs}
+use Rattle.cma.proofs.results.ended.Statement.{statement}
+use Rattle.cma.proofs.results.ended.Tie as tie
+
+answer-of-requires : tie.Need-answer-of-requires
+answer-of-requires c κs = search needs
+
+returns : tie.Need-returns
+returns c = rw (c .answer-of .ensures)
+
+pub ended-spec : {M : Type 1} → statement M
+ended-spec = tie.close (tie.spec answer-of-requires returns)
