@@ -12,10 +12,12 @@ use Rattle.machine.specs.Book.{Book}
 use Rattle.machine.specs.Demand.{Fair, placesOf, runnerOf, waitsIn}
 use Rattle.machine.specs.Lists.{count}
 use Rattle.machine.specs.Plain.{Placed}
+use Rattle.machine.specs.Size.{mutexLimit}
 use Rattle.machine.specs.State.{State}
-use Rattle.machine.specs.Tables.{Tables, active, atEnd, ended, placeOf, queue, ready, unmade}
+use Rattle.machine.specs.Tables.{Tables, active, atEnd, atMutex, ended, ownerOf, placeOf, queue, ready, unmade}
+use Rattle.machine.proofs.Changes.{head-below}
 use Rattle.machine.proofs.Lists.{count-cons, count-nil, less-or-not, one-if-other, one-if-same, same-or-not}
-use Rattle.machine.proofs.Queues.{count-queue, count-queued}
+use Rattle.machine.proofs.Queues.{count-queue, count-queued, first-at}
 use Rattle.machine.proofs.Steady.{Right}
 
 -- a thread is in none of the queues of some places if its own place is none of them
@@ -96,10 +98,23 @@ module _ (size : ℕ) (s : State) (book : Book) (r : Right size s book) where
       let none : placeOf (s .tables) t ≡ 0 = List·getD-eq-default (s .tables .places) 0 (rw (r .steady .both .kempt .sizes .places) past) in
       rw (outside t past, waits-none (s .tables) t ready (1 + 5 * size) (λ q a b c. omega (arith, c, none)), none)))
 
+  -- nobody waits for a free mutex
+  unawaited : (m : ℕ) → m < mutexLimit size → ownerOf (s .tables) m ≡ size → queue (s .tables) (atMutex m) ≡ []
+  unawaited m below unowned = by-queue (queue (s .tables) (atMutex m)) refl
+    where
+      by-queue : (l : List ℕ) → queue (s .tables) (atMutex m) ≡ l → queue (s .tables) (atMutex m) ≡ []
+      by-queue [] e = e
+      by-queue (t ∷ rest) e =
+          let both = r .steady .both in
+          let inside : t < size = head-below both (atMutex m) t rest e in
+          let at = first-at (s .tables) (atMutex m) t rest e in
+          absurd (both .kempt .tidy .placed t inside .for-mutex m below at .1 unowned)
+
   pub fair : Fair size s book
   fair =
       record {
         one-place = one-place;
         counted = r .steady .both .booked .counted;
         in-order = r .steady .both .booked .ordered;
+        unawaited = unawaited;
       }

@@ -12,41 +12,18 @@ use Rattle.card.specs.Image.{readOf}
 use Rattle.card.specs.declared.reader.Reading.the-variants as reading
 use Rattle.machine.specs.Book.{Book, Entry, blank, bookOf, namesLeft}
 use Rattle.machine.specs.Calls.{Box, setUp, stateOf}
-use Rattle.machine.specs.Demand.{Call, Each, Fair, Fitting, callOf, holderOf, played}
-use Rattle.machine.specs.Laws.{Sound}
+use Rattle.machine.specs.Demand.{Call, Each, Fair, Fitting, holderOf, played}
 use Rattle.machine.specs.Order.{FirstLeft, Order3, OrderFor, Owners, Served, bookAt}
 use Rattle.machine.specs.Size.{full, mutexLimit, shared, storeSize, tablesSize, valuesSize}
 use Rattle.machine.specs.Tables.{Tables, atMutex, ownerOf, queue}
 use Rattle.machine.proofs.Booked.{free, held}
-use Rattle.machine.proofs.Changes.{head-below}
 use Rattle.machine.proofs.Cuts.{cut}
 use Rattle.machine.proofs.Demand.{demand-for}
-use Rattle.machine.proofs.Laws.{keeps-formed, set-up-forms, sound-held}
 use Rattle.machine.proofs.Lists.{less-or-not, same-or-not}
-use Rattle.machine.proofs.Queues.{first-at}
 use Rattle.machine.proofs.Traces.{executed, named, no-sooner, nobody-skipped, none-completes, numbered, once, one-holds, ordered}
 
--- a list of calls leaves a box that 6 and 7 let through as such a box
-pub played-sound : (size : ℕ) (calls : List Call) (box : Box) → Sound size box → Sound size (played size calls box .box)
-unfolding played
-played-sound size [] box h = h
-played-sound size (call ∷ rest) box h = played-sound size rest (callOf size call box .box) (keeps-formed size call box h)
-
--- nobody waits for a free mutex
-free-unwanted : (size : ℕ) (box : Box) → Sound size box → (m : ℕ) → m < mutexLimit size →
-    ownerOf (stateOf size box .tables) m ≡ size → queue (stateOf size box .tables) (atMutex m) ≡ []
-free-unwanted size box h m below unowned = by-queue (queue (stateOf size box .tables) (atMutex m)) refl
-  where
-    by-queue : (l : List ℕ) → queue (stateOf size box .tables) (atMutex m) ≡ l → queue (stateOf size box .tables) (atMutex m) ≡ []
-    by-queue [] e = e
-    by-queue (t ∷ rest) e =
-        let both = sound-held size box h .right .steady .both in
-        let inside : t < size = head-below both (atMutex m) t rest e in
-        let at = first-at (stateOf size box .tables) (atMutex m) t rest e in
-        absurd (both .kempt .tidy .placed t inside .for-mutex m below at .1 unowned)
-
 -- the first left is the owner's
-module _ (size : ℕ) (box : Box) (book : Book) (h : Sound size box) (fair : Fair size (stateOf size box) book) where
+module _ (size : ℕ) (box : Box) (book : Book) (fair : Fair size (stateOf size box) book) where
   first-owns : (m k : ℕ) → m < mutexLimit size → FirstLeft book m k → holderOf size (stateOf size box .tables) m ≡ getD (book .names m) k 0 ∷ []
   first-owns m k below f =
       let tables : Tables = stateOf size box .tables in
@@ -55,7 +32,7 @@ module _ (size : ℕ) (box : Box) (book : Book) (h : Sound size box) (fair : Fai
       same-or-not (ownerOf tables m) size
       (λ e.
       let none : getD (book .names m) k 0 ∷ drop (suc k) (book .names m) ≡ [] =
-      rw (free size tables m e, free-unwanted size box h m below e) at order in
+      rw (free size tables m e, fair .unawaited m below e) at order in
       absurd (omega (arith, ap length none)))
       (λ e.
       let here = held size tables m (ownerOf tables m) refl e in
@@ -100,7 +77,6 @@ module _ (size : ℕ) (some : 1 ≤ size) (card : List ℕ) (cells : ℕ) (lent 
   unfolding trace
   served =
       let box : Box = setUp size card lent .box in
-      let sound = set-up-forms size card cells lent some e fits store tables values .1 in
       let claim = demand-for size some card cells lent calls e fits store tables values all in
       record {
         in-order =
@@ -114,7 +90,7 @@ module _ (size : ℕ) (some : 1 ≤ size) (card : List ℕ) (cells : ℕ) (lent 
               nobody-skipped = λ m k j below. nobody-skipped trace m (counted m below) k j;
             };
         exclusive = record { one-holds = one-holds trace; none-completes = none-completes trace };
-        owners = owners size (played size calls box .box) (bookOf blank trace) (played-sound size calls box sound) (claim .fair);
+        owners = owners size (played size calls box .box) (bookOf blank trace) (claim .fair);
         cut = λ j h. cut size card calls all box j h;
       }
 

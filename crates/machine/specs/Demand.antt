@@ -40,8 +40,10 @@ pub record Fair (size : ℕ) (s : State) (book : Book) : Type 0 where
   pub one-place : (t : ℕ) → placesOf size s t ≡ cond (book .living t) 1 0
   -- the count is never over the list's length
   pub counted : (m : ℕ) → m < mutexLimit size → book .releases m ≤ length (book .names m)
-  -- the names left are the owner, followed by those waiting; with none left there is no owner and nobody waits
+  -- the names left are the owner, followed by those waiting; with none left there is no owner and nobody waits, ..
   pub in-order : (m : ℕ) → m < mutexLimit size → namesLeft book m ≡ holderOf size (s .tables) m ++ queue (s .tables) (atMutex m)
+  -- .. and with no owner nobody waits: where a name is left, the first is the owner's
+  pub unawaited : (m : ℕ) → m < mutexLimit size → ownerOf (s .tables) m ≡ size → queue (s .tables) (atMutex m) ≡ []
 
 -- a call of the list, with its image
 pub data Call : Type 0 where
