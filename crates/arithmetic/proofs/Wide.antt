@@ -83,7 +83,7 @@ cast-fits f = rw (toZ-ofZ f) (sfits-widen tt f)
 abbrev pub widened : ℤ → ℤ
 widened a = toZ w64 (ofZ w64 (toZ w32 (ofZ w32 a)))
 
-widened-is : {a : ℤ} → SFits w32 a → widened a ≡ a
+pub widened-is : {a : ℤ} → SFits w32 a → widened a ≡ a
 widened-is f = toZ-ofZ (cast-fits f) ∙ toZ-ofZ f
 
 module _ (f : ℤ → ℤ → ℤ) (h : Fitting f) {a b : ℤ} (fa : SFits w32 a) (fb : SFits w32 b) where

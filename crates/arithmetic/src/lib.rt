@@ -2,7 +2,7 @@
 // Inner: the machine's instructions call these functions.
 ghost use mathlib.Core.Path.{_≡_};
 ghost use mathlib.Core.Bool.{cond};
-ghost use lib.IntN.{pos, negℤ, _+ℤ_, _-ℤ_, _*ℤ_};
+ghost use lib.IntN.{natAbs, pos, negℤ, _+ℤ_, _-ℤ_, _*ℤ_};
 ghost use lib.Signed.{leZ, ltZ, quotZ, remZ};
 ghost use Rattle.arithmetic.specs.Arithmetic.{eqZ, narrowed};
 
@@ -61,6 +61,17 @@ pub fn neg(a: i32) -> Number
     ensures { λ r. ⌜ r ≡ narrowed (negℤ a) ⌝ }
 {
     narrow(-(a as i64))
+}
+
+// A cell without its sign.
+pub fn magnitude(a: i32) -> u64
+    ensures { λ r. ⌜ r ≡ natAbs a ⌝ }
+{
+    if a < 0 {
+        (-(a as i64)) as u64
+    } else {
+        a as u64
+    }
 }
 
 pub fn equal(a: i32, b: i32) -> bool

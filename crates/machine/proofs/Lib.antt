@@ -16,7 +16,6 @@ pub mod Held
 pub mod Fairness
 pub mod Demand
 pub mod Runs
-pub mod Runner
 pub mod Sessions
 pub mod Equations
 pub mod Laws

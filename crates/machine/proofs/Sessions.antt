@@ -3,12 +3,14 @@ use mathlib.Core.Path.{refl}
 use Rattle.card.specs.Code.{firstBad, wordsOf}
 use Rattle.card.specs.Image.{codeOf, readCode, readOf}
 use Rattle.card.specs.Writing.{wordsBytes}
+use Rattle.text.specs.Decimal.{decimal, places}
+use Rattle.text.specs.Lines.{line}
 use Rattle.machine.specs.Book.{eventOf}
 use Rattle.machine.specs.Calls.{runCall, setUp}
 use Rattle.machine.specs.Execution.{exec, fits, frame, needs, owns, rooms, within}
 use Rattle.machine.specs.Instructions.{instructionOf}
 use Rattle.machine.specs.Lists.{count, every, keep, some, toEnd, upTo}
-use Rattle.machine.specs.Runner.{decimal, line, lineOf, places, runnerCall, runnerLine}
+use Rattle.machine.specs.Runner.{lineOf, runnerIn, runnerLine}
 use Rattle.machine.specs.Sessions.{Hold, agree, all, bytesOf, endedOf}
 use Rattle.machine.specs.State.{finished, left, next, start}
 use Rattle.machine.specs.Step.{carried, run}
@@ -17,7 +19,7 @@ use Rattle.machine.specs.WellFormed.{allBelow, formed, wellFormed}
 
 pub hold : Hold
 unfolding
-    all agree bytesOf endedOf runnerLine runnerCall lineOf line decimal places setUp runCall run carried exec needs rooms within fits frame owns eventOf
+    all agree bytesOf endedOf runnerLine runnerIn lineOf line decimal places setUp runCall run carried exec needs rooms within fits frame owns eventOf
     instructionOf start next left finished tablesOf sliceOf queue anyLive first sent owned saved allReady keep count toEnd upTo every some allBelow formed
     wellFormed readOf readCode codeOf firstBad wordsOf wordsBytes
 hold = refl

@@ -1,48 +1,18 @@
 -- "The runner": the line that it prints, byte for byte, and the whole runner from its input to that line.
-use Prim.Native.Nat.{ℕ, zero, suc, _/_}
+use Prim.Native.Nat.{ℕ}
 use mathlib.Core.Bool.{Bool, true, false, cond}
-use mathlib.Core.List.{List, [], _∷_, _++_}
-use mathlib.Core.Path.{_≡_, refl}
-use lib.Dec.{eqb, ltb}
-use lib.IntN.{ℤ, pos, negsuc}
+use mathlib.Core.List.{List, [], _∷_}
+use lib.Dec.{eqb}
+use lib.IntN.{pos}
 use lib.ListN.{getD, replicate, take}
-use Rattle.io.specs.Digits.{digits}
+use Rattle.text.specs.Decimal.{decimal, signed}
+use Rattle.text.specs.Lines.{line}
 use Rattle.machine.specs.Calls.{Box, Called, countOf, runCall, setUp, stateOf}
 use Rattle.machine.specs.Registers.{zeros}
 use Rattle.machine.specs.Size.{storeSize, tablesSize, valuesSize}
 use Rattle.machine.specs.Tables.{ended, placeOf}
 use Rattle.machine.specs.declared.answers.Answer.{Answer}
 use Rattle.machine.specs.declared.answers.Answer.the-variants.{Halted, Running, Stuck, Faulted, Refused}
-
--- the fewest decimal places that hold a number, at most k + 1 of them
-unfoldable pub places : ℕ → ℕ → ℕ
-places zero n = 1
-places (suc k) n =
-    let more = suc (places k (n / 10)) in
-    cond (ltb n 10) 1 more
-
--- a number below 10^20 in decimal, with no zeros in front: the kit's digits, in the fewest places
-unfoldable pub decimal : ℕ → List ℕ
-decimal n = digits 10 (places 19 n) n
-
--- a cell in decimal, with `-` in front of a negative one
-abbrev pub signed : ℤ → List ℕ
-signed (pos k) = decimal k
-signed (negsuc k) = 45 ∷ decimal (suc k)
-
--- the least text, and the longest of a cell: `0` and `-2147483648`
-zero-text : signed (pos 0) ≡ 48 ∷ []
-unfolding decimal places
-zero-text = refl
-
-least-text : signed (negsuc 2147483647) ≡ 45 ∷ 50 ∷ 49 ∷ 52 ∷ 55 ∷ 52 ∷ 56 ∷ 51 ∷ 54 ∷ 52 ∷ 56 ∷ []
-unfolding decimal places
-least-text = refl
-
--- a line: words with a space between them, and one line feed at the end
-unfoldable pub line : List ℕ → List (List ℕ) → List ℕ
-line word [] = word ++ 10 ∷ []
-line word (next ∷ rest) = word ++ 32 ∷ line next rest
 
 -- `halted`
 abbrev pub haltedWord : List ℕ
@@ -114,12 +84,15 @@ isRefused Stuck = false
 isRefused (Faulted number place) = false
 isRefused (Refused number place) = true
 
--- setting up and, where that is not refused, the run
-unfoldable pub runnerCall : ℕ → List ℕ → Called
-runnerCall size image =
-    let up = setUp size image (lent size) in
+-- setting up in a lent box and, where that is not refused, the run
+unfoldable pub runnerIn : ℕ → List ℕ → Box → Called
+runnerIn size image box =
+    let up = setUp size image box in
     let ran = runCall size image stepLimit (up .box) in
     cond (isRefused (up .answer)) up ran
+
+abbrev pub runnerCall : ℕ → List ℕ → Called
+runnerCall size image = runnerIn size image (lent size)
 
 -- the whole runner, from what stands on its input to the line that it prints
 unfoldable pub runnerLine : ℕ → List ℕ → List ℕ

@@ -2,8 +2,9 @@
 // Inner: the machine's instructions call these functions on tables that are in order.
 ghost use mathlib.Core.Path.{_≡_};
 ghost use Prim.Native.Nat.{_+_, _*_, _<_, _≤_};
+ghost use lib.Dec.{eqb};
 ghost use lib.ListN.{getD, length};
-ghost use Rattle.machine.specs.Tables.{anyLive, first, owned, ownerOf, placeOf, saved, sent, tablesOf, wakeAll};
+ghost use Rattle.machine.specs.Tables.{anyLive, ended, first, owned, ownerOf, placeOf, saved, sent, tablesOf, wakeAll};
 ghost use Rattle.tables.specs.Good.{Dequeued, Good, Left, endMoved};
 use machine::First;
 use machine::Mutex;
@@ -19,6 +20,16 @@ pub fn place(tables: &[usize], size: usize, t: Thread) -> usize
 {
     let at = t.0;
     tables[at]
+}
+
+// Whether a thread has ended. It asks only for the tables' length, so that the runner can look at what a call left.
+pub fn has_ended(tables: &[usize], size: usize, t: Thread) -> bool
+    requires { ⌜ size ≤ length (now tables) ⌝ }
+    requires { ⌜ t .0 < size ⌝ }
+    ensures { λ r. ⌜ r ≡ eqb (placeOf (tablesOf size (now (tables .entry))) (t .0)) ended ⌝ }
+{
+    let at = t.0;
+    tables[at] == 1
 }
 
 // The owner of a mutex, or `size` where it is free.

@@ -1,12 +1,18 @@
--- The runner's numbers are the kit's: what `io::decimal` promises of its digits makes them `decimal`. Assumes nothing.
+-- The numbers of a text are the kit's: what `io::decimal` promises of its digits makes them `decimal`. Assumes nothing.
 use Prim.Native.Nat.{ℕ, zero, suc, _/_, _^_, _≤_, _<_}
-use mathlib.Core.Path.{_≡_, refl, ap}
+use mathlib.Core.Bool.{Bool, true, false, cond, true≢false}
+use mathlib.Core.List.{_∷_}
+use mathlib.Core.Path.{_≡_, refl, ap, _∙_}
 use native.Mathlib.Nat.{pow-le-pow-right, pow-suc}
 use native.Mathlib.Numerals.{sub-one}
 use native.Mathlib.Omega.{arith}
-use borrow.Author.Tests.{le-ltb, lt-ltb}
+use borrow.Author.Tests.{le-ltb, lt-ltb, ltb-true}
+use lib.Dec.{ltb}
+use lib.IntN.{ℤ, pos, negsuc, natAbs}
+use lib.ListN.{length, length-append}
+use lib.Signed.{ltZ}
 use Rattle.io.specs.Digits.{Fewest, digits}
-use Rattle.machine.specs.Runner.{decimal, places}
+use Rattle.text.specs.Decimal.{decimal, places, signed}
 
 -- a number below 10 has one place
 one-place : (n k : ℕ) → n < 10 → Fewest 10 1 n k → 1 ≡ k
@@ -38,3 +44,31 @@ places-fewest (suc fuel) n (suc (suc k)) h f =
 pub decimal-is : (n k : ℕ) → n < 2 ^ 64 → Fewest 10 1 n k → digits 10 k n ≡ decimal n
 unfolding decimal
 decimal-is n k h f = rw (places-fewest 19 n k (omega arith) f)
+
+-- a number has at most 20 places, ..
+one-or-more : (b : Bool) (k most : ℕ) → k ≤ most → cond b 1 (suc k) ≤ suc most
+one-or-more true k most h = omega arith
+one-or-more false k most h = omega arith
+
+places-most : (fuel n : ℕ) → places fuel n ≤ suc fuel
+unfolding places
+places-most zero n = omega arith
+places-most (suc fuel) n = one-or-more (ltb n 10) (places fuel (n / 10)) (suc fuel) (places-most fuel (n / 10))
+
+digits-length : (b k n : ℕ) → length (digits b k n) ≡ k
+digits-length b zero n = refl
+digits-length b (suc k) n = length-append (digits b k (n / b)) _ ∙ omega (arith, digits-length b k (n / b))
+
+-- .. so its text has at most 20 bytes
+pub decimal-most : (n : ℕ) → length (decimal n) ≤ 20
+unfolding decimal
+decimal-most n = rw (digits-length 10 (places 19 n) n) (places-most 19 n)
+
+-- a cell is its sign and its size
+pub below-zero : (z : ℤ) → ltZ z (pos 0) ≡ true → 45 ∷ decimal (natAbs z) ≡ signed z
+below-zero (pos n) e = absurd (omega (arith, ltb-true n 0 e))
+below-zero (negsuc n) e = refl
+
+pub from-zero : (z : ℤ) → ltZ z (pos 0) ≡ false → decimal (natAbs z) ≡ signed z
+from-zero (pos n) e = refl
+from-zero (negsuc n) e = absurd (true≢false e)

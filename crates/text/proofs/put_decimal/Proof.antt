@@ -1,0 +1,47 @@
+-- `text::put_decimal` meets its contract: the kit's digits are the definition's. Assumes nothing.
+use Prim.Native.Nat.{ℕ, _+_}
+use mathlib.Core.Path.{_≡_, ap, _∙_}
+use mathlib.Core.List.{List}
+use native.Mathlib.Omega.{arith}
+use borrow.Author.Needs.{needs}
+use lib.ListN.{length, take}
+use lib.Seq.{sets}
+use Rattle.text.specs.Decimal.{decimal}
+use Rattle.text.proofs.Decimal.{decimal-is, decimal-most}
+use Rattle.text.proofs.Lines.{of}
+use Rattle.text.proofs.put_decimal.Statement.{statement}
+use Rattle.text.proofs.put_decimal.Tie as tie
+
+spelled : (c : tie.After-decimal) → take (c .decimal .result) (c .decimal .last .1 .0) ≡ decimal (c .before .before .before .args .n)
+spelled c = c .decimal .ensures .1 .1 ∙ decimal-is _ _ (omega (arith, c .before .before .before .fits .n)) (c .decimal .ensures .1 .0)
+
+decimal-requires : tie.Need-decimal-requires
+decimal-requires c κs = search needs
+
+array-share-prefix-digits : tie.Need-array-share-prefix-digits
+array-share-prefix-digits c = search needs
+
+slice-aggregate-put-bytes : tie.Need-slice-aggregate-put-bytes
+slice-aggregate-put-bytes c = search needs
+
+put-bytes-requires : tie.Need-put-bytes-requires
+put-bytes-requires c κs = rw (spelled (c .before .before)) (omega (arith, decimal-most (c .before .before .before .before .before .args .n)))
+
+same-length : tie.Need-same-length
+same-length c = search needs
+
+returns : tie.Need-returns
+returns c =
+    let p = of (spelled (c .before .before .before .before .before)) (c .before .before .put-bytes .ensures) in
+    (p, omega (arith, p .reached, decimal-most (c .before .before .before .before .before .before .before .before .args .n)))
+
+pub put-decimal-spec : {M : Type 1} → statement M
+put-decimal-spec =
+    tie.close
+    (tie.spec
+    decimal-requires
+    array-share-prefix-digits
+    slice-aggregate-put-bytes
+    put-bytes-requires
+    same-length
+    returns)
