@@ -1,12 +1,19 @@
 // The instruction of each opcode.
 ghost use Prim.Native.Nat.{_≤_};
+ghost use lib.IntN.{natAbs};
 ghost use lib.ListN.{length};
-ghost use Rattle.engine.specs.Contract.{Executes, Permitted, Working};
+ghost use mathlib.Core.Path.{_≡_};
+ghost use Rattle.engine.specs.Contract.{Executes, Natural, Permitted, Working};
 ghost use Rattle.machine.specs.Instructions.{instructionOf};
-use crate::on_cells::on_cells;
-use crate::on_locks::on_locks;
-use crate::on_threads::on_threads;
 use machine::Registers;
+
+// An operand that is a number of cells or a jump's target.
+fn natural(k: i32) -> usize
+    requires { ⌜ Natural k ⌝ }
+    ensures { λ a. ⌜ a ≡ natAbs k ⌝ }
+{
+    k as usize
+}
 
 pub fn execute(
     store: &mut [i32],
@@ -23,14 +30,46 @@ pub fn execute(
     requires { ⌜ opcode ≤ 37 ⌝ }
     ensures { λ q. ⌜ Executes size n (instructionOf opcode operand) (now (store .entry)) (now (tables .entry)) (now (values .entry)) r (now (store .exit)) (now (tables .exit)) (now (values .exit)) q ⌝ }
 {
-    if 31 <= opcode {
-        return on_locks(store, tables, size, r, opcode);
+    match opcode {
+        0 => stack::halt(r),
+        1 => stack::loadc(store, size, r, operand),
+        2 => stack::load(store, size, r),
+        3 => stack::store_cell(store, size, r),
+        4 => stack::loadr(store, size, r, operand),
+        5 => stack::storer(store, size, r, operand),
+        6 => stack::alloc(store, size, r, natural(operand)),
+        7 => stack::pop(r),
+        8 => stack::dup(store, size, r),
+        9 => operators::binary(store, size, r, 9),
+        10 => operators::binary(store, size, r, 10),
+        11 => operators::binary(store, size, r, 11),
+        12 => operators::binary(store, size, r, 12),
+        13 => operators::binary(store, size, r, 13),
+        14 => operators::neg(store, size, r),
+        15 => operators::compare(store, size, r, 15),
+        16 => operators::compare(store, size, r, 16),
+        17 => operators::compare(store, size, r, 17),
+        18 => operators::compare(store, size, r, 18),
+        19 => operators::not(store, size, r),
+        20 => stack::jump(r, natural(operand)),
+        21 => stack::jumpz(store, size, r, natural(operand)),
+        22 => stack::mark(store, size, r),
+        23 => stack::call(store, size, r, n),
+        24 => threads::return_from(store, tables, values, size, r, n),
+        25 => stack::fresh(store, size, r),
+        26 => threads::create(store, tables, size, r, n),
+        27 => threads::yield_turn(tables, size, r),
+        28 => threads::exit(store, tables, values, size, r),
+        29 => threads::join(store, tables, size, r),
+        30 => threads::finalize(store, tables, values, size, r),
+        31 => locks::newmutex(store, size, r),
+        32 => locks::lock(store, tables, size, r),
+        33 => locks::unlock(store, tables, size, r),
+        34 => locks::newcond(store, size, r),
+        35 => locks::wait(store, tables, size, r),
+        36 => locks::signal(store, tables, size, r),
+        37 => locks::broadcast(store, tables, size, r),
+        // No card that was accepted has another opcode.
+        _ => stack::halt(r),
     }
-    if opcode == 24 {
-        return on_threads(store, tables, values, size, n, r, opcode);
-    }
-    if opcode <= 25 {
-        return on_cells(store, size, n, r, opcode, operand);
-    }
-    on_threads(store, tables, values, size, n, r, opcode)
 }

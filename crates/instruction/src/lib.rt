@@ -82,12 +82,8 @@ pub fn opcode(w: u32) -> u32
 pub fn operand(w: u32) -> i32
     ensures { λ r. ⌜ r ≡ operandOf w ⌝ }
 {
-    let bits = w % 16777216;
-    if bits < 8388608 {
-        bits as i32
-    } else {
-        bits as i32 - 16777216
-    }
+    let turned = (w % 16777216 + 8388608) % 16777216;
+    turned as i32 - 8388608
 }
 
 pub fn rule_of(opcode: u32) -> Rule

@@ -4,23 +4,25 @@ ghost use Prim.Native.Nat.{_≤_};
 ghost use Rattle.machine.specs.Registers.{advanced, stopped, switched, withCells, withFp, withFree, withMade, withPc, withState};
 use crate::numbers::Thread;
 
+// The order of the fields is for speed: with those that an instruction changes far apart, the compiler keeps each in a register of its own
+// instead of copying several as one block.
 pub struct Registers {
+    // The next free shared cell.
+    pub free: usize,
+    pub pc: usize,
+    // How many threads, mutexes and conditions were made.
+    pub threads: usize,
+    // The number of cells on the stack: SP is one less.
+    pub cells: usize,
+    pub mutexes: usize,
+    // The running thread, or the number of threads of the box where none runs.
+    pub thread: usize,
+    pub conditions: usize,
     // 0 halted, 1 running, 2 stuck, 3 faulted.
     pub state: usize,
     // The number of the fault, 0 where there is none.
     pub fault: usize,
-    // The running thread, or the number of threads of the box where none runs.
-    pub thread: usize,
-    pub pc: usize,
-    // The number of cells on the stack: SP is one less.
-    pub cells: usize,
     pub fp: usize,
-    // The next free shared cell.
-    pub free: usize,
-    // How many threads, mutexes and conditions were made.
-    pub threads: usize,
-    pub mutexes: usize,
-    pub conditions: usize,
 }
 
 impl Registers {

@@ -1,63 +1,103 @@
 -- Laws of the line in a slice: a thread moved to the end, and the search along it. Assumes nothing.
 use Prim.Native.Nat.{ℕ, zero, suc, _+_, _*_, _-_, _<_, _≤_}
 use mathlib.Core.Path.{_≡_, refl, sym, ap, _∙_}
-use mathlib.Core.Bool.{Bool, true, false}
-use mathlib.Core.List.{List, [], _∷_, _++_, append-assoc}
+use mathlib.Core.Bool.{true, false}
+use mathlib.Core.List.{List, [], _∷_, _++_}
 use mathlib.Core.Logic.{_≢_}
 use native.Mathlib.Numerals.{add-one}
 use native.Mathlib.Omega.{arith}
-use lib.Dec.{eqb}
-use lib.ListN.{length, getD, set, take, drop, drop-of-length-le, length-append, length-drop, length-set, length-take, take-append-drop}
-use lib.Seq.{append-snoc, drop-append-le, drop-at, drop-cons, drop-set-add, drop-set-lt, getD-drop, getD-set-other, getD-set-same, length-take-le, take-append-le, take-set-le, take-set-lt, take-suc, take-suc-set}
+use lib.ListN.{length, getD, set, take, drop, drop-of-length-le, length-append, length-drop, length-set, take-append-drop, List·getD-append}
+use lib.Seq.{drop-append-le, drop-at, drop-cons, drop-set-lt, getD-drop, length-take-le, take-append-le, take-set-lt}
 use borrow.Author.Tests.{eq-eqb, ne-eqb, lt-ltb, le-ltb}
-use Rattle.machine.proofs.Lists.{cases, count-cons, keep-in, keep-nil, keep-out, length-to-end, less-or-not, one-if-same}
+use Rattle.machine.proofs.Lists.{count-cons, count-nil, keep-in, keep-nil, keep-out, length-to-end, less-or-not, one-if-is, one-if-other, one-if-same}
 use Rattle.machine.proofs.Queues.{first-in-line, first-nobody, first-waiter, sent-count}
 use Rattle.machine.specs.Lists.{count, keep, toEnd}
-use Rattle.machine.specs.Plain.{Line}
-use Rattle.machine.specs.Tables.{Tables, first, firstOf, isAt, lives, placeOf, queue, sent, tablesOf}
+use Rattle.machine.specs.Tables.{first, firstOf, isAt, lives, placeOf, queue, sent, tablesOf}
 use Rattle.machine.specs.declared.numbers.Thread.{Thread}
 use Rattle.machine.specs.declared.numbers.First.{First}
 use Rattle.machine.specs.declared.numbers.First.the-variants.{Waiter, Nobody}
 use Rattle.tables.specs.Good.{Good, Left, endMoved}
 use Rattle.tables.proofs.Regions.{read-place}
 
--- ---- moving to the end, one neighbour after the other
+-- a member occurs
+occurs : (l : List ℕ) (i : ℕ) → i < length l → 0 < count (getD l i 0) l
+occurs [] i h = absurd (omega arith)
+occurs (x ∷ l) zero h = rw (count-cons x x l, one-if-same x) (omega arith)
+occurs (x ∷ l) (suc i) h = rw (count-cons (getD l i 0) x l) (omega (arith, occurs l i (omega arith)))
 
--- a list of one or none has no end to move to
-short : (t : ℕ) (l : List ℕ) → length l ≤ 1 → toEnd t l ≡ l
+-- ---- moving to the end: a walk back from the end, with one entry in hand
+
+-- a list but for one entry
+abbrev without : ℕ → List ℕ → List ℕ
+without i l = take i l ++ drop (suc i) l
+
+-- the move, by where t stands: with t put behind the line, its old entry is left out
+moved-at : (t : ℕ) (l : List ℕ) (from i : ℕ) → from ≤ i → i < length l → getD l i 0 ≡ t → count t (drop from l) ≡ 1 → endMoved l from t ≡ without i (l ++ t ∷ [])
 unfolding toEnd
-short t [] h = refl
-short t (x ∷ []) h = cases (eqb x t) (λ e. rw e) (λ e. rw e)
-short t (x ∷ y ∷ l) h = absurd (omega arith)
+moved-at t [] from i low high here once = absurd (omega arith)
+moved-at t (x ∷ l) (suc from) zero low high here once = absurd (omega arith)
+moved-at t (x ∷ l) (suc from) (suc i) low high here once = ap (λ (r : List ℕ). x ∷ r) (moved-at t l from i (omega arith) (omega arith) here once)
+moved-at t (x ∷ l) zero zero low high here once = rw (eq-eqb x t here, here)
+moved-at t (x ∷ l) zero (suc i) low high here once =
+    let there : 0 < count t l = rw here at (occurs l i (omega arith)) in
+    let away : x ≢ t = λ e. omega (arith, count-cons t x l, one-if-is x t e) in
+    let rest : count t l ≡ 1 = omega (arith, count-cons t x l, one-if-other x t away) in
+    rw (ne-eqb x t away) (ap (λ (r : List ℕ). x ∷ r) (moved-at t l zero i (omega arith) (omega arith) here rest))
 
-module _ (l : List ℕ) (i t : ℕ) where
-  -- another number is passed by
-  pub passed : i < length l → getD l i 0 ≢ t → endMoved l i t ≡ endMoved l (i + 1) t
-  unfolding toEnd
-  passed h away =
-      rw (add-one, drop-cons l i 0 h, take-suc l i 0 h, ne-eqb (getD l i 0) t away)
-      (sym (append-snoc (take i l) (getD l i 0) (toEnd t (drop (suc i) l))))
+-- what stands before the gap is as it was
+before-gap : (l : List ℕ) (i : ℕ) → getD (without (suc i) l) i 0 ≡ getD l i 0
+before-gap [] i = refl
+before-gap (x ∷ l) zero = refl
+before-gap (x ∷ l) (suc i) = before-gap l i
 
-  -- t changes places with its neighbour
-  pub swapped : i + 1 < length l → getD l i 0 ≡ t → endMoved l i t ≡ endMoved (set (set l i (getD l (i + 1) 0)) (i + 1) t) (i + 1) t
-  unfolding toEnd
-  swapped h here =
-      let y : ℕ = getD l (suc i) 0 in
-      let one : List ℕ = set l i y in
-      let two : List ℕ = set one (suc i) t in
-      let inside : suc i < length one = rw (length-set l i y) (omega arith) in
-      let tail : drop (suc (suc i)) two ≡ drop (suc (suc i)) l = drop-set-lt (suc (suc i)) one (suc i) t (omega arith) ∙ drop-set-lt (suc (suc i)) l i y (omega arith) in
-      let rest : drop (suc i) two ≡ t ∷ drop (suc (suc i)) l =
-      drop-cons two (suc i) 0 (rw (length-set one (suc i) t) inside)
-      ∙ (λ k. getD-set-same one (suc i) t 0 inside k ∷ tail k) in
-      let front : take (suc i) two ≡ take i l ++ (y ∷ []) = take-set-le (suc i) one (suc i) t (omega arith) ∙ take-suc-set l i y (omega arith) in
-      let was : drop i l ≡ t ∷ y ∷ drop (suc (suc i)) l = drop-cons l i 0 (omega arith) ∙ (λ k. here k ∷ drop-cons l (suc i) 0 (omega arith) k) in
-      rw (add-one, was, front, rest, eq-eqb t t refl)
-      (sym (append-snoc (take i l) y (drop (suc (suc i)) l ++ t ∷ [])))
+-- what was left out goes over the entry before it: that one is left out now
+gap-moved : (l : List ℕ) (i : ℕ) → suc i < length l → set (without (suc i) l) i (getD l (suc i) 0) ≡ without i l
+gap-moved [] i h = absurd (omega arith)
+gap-moved (x ∷ []) i h = absurd (omega arith)
+gap-moved (x ∷ y ∷ l) zero h = refl
+gap-moved (x ∷ y ∷ l) (suc i) h = ap (λ (r : List ℕ). x ∷ r) (gap-moved (y ∷ l) i (omega arith))
 
-  -- the last number has nowhere to go
-  pub at-end : length l ≤ i + 1 → endMoved l i t ≡ l
-  at-end h = ap (λ (r : List ℕ). take i l ++ r) (short t (drop i l) (omega (arith, length-drop i l))) ∙ take-append-drop i l
+-- with the last left out, the line is as it was
+last-out : (t : ℕ) (l : List ℕ) → l ≡ without (length l) (l ++ t ∷ [])
+last-out t [] = refl
+last-out t (x ∷ l) = ap (λ (r : List ℕ). x ∷ r) (last-out t l)
+
+-- and the last is t
+last-is : (t : ℕ) (l : List ℕ) → t ≡ getD (l ++ t ∷ []) (length l) 0
+last-is t [] = refl
+last-is t (x ∷ l) = last-is t l
+
+-- the walk so far: of the old line with t behind it, the entry at i is in hand and the others stand in the slice; t was not met
+pub record Walked (was : List ℕ) (t : ℕ) (l : List ℕ) (carried i : ℕ) : Type 0 where
+  pub is : l ≡ without i (was ++ t ∷ [])
+  pub hand : carried ≡ getD (was ++ t ∷ []) i 0
+  pub passed : count t (drop i was) ≡ 0
+
+-- before it starts, t is in hand
+pub walk-start : (l : List ℕ) (t : ℕ) → Walked l t l t (length l)
+walk-start l t = record { is = last-out t l; hand = last-is t l; passed = ap (count t) (drop-of-length-le l {i = length l} (omega arith)) ∙ count-nil t }
+
+module _ (was : List ℕ) (t : ℕ) (l : List ℕ) (carried i j : ℕ) (w : Walked was t l carried i) (next : i ≡ suc j) (h : j < length was) where
+  -- what is met is the old line's
+  met : getD l j 0 ≡ getD was j 0
+  met = rw (w .is, next, before-gap (was ++ t ∷ []) j) (List·getD-append was (t ∷ []) 0 j h)
+
+  -- what was in hand is put there
+  put : set l j carried ≡ without j (was ++ t ∷ [])
+  put = rw (w .is, w .hand, next) (gap-moved (was ++ t ∷ []) j (omega (arith, length-append was (t ∷ []))))
+
+  -- another number is taken in hand
+  pub walk-on : getD l j 0 ≢ t → Walked was t (set l j carried) (getD l j 0) j
+  walk-on away =
+      record {
+        is = put;
+        hand = met ∙ sym (List·getD-append was (t ∷ []) 0 j h);
+        passed = rw (drop-cons was j 0 h, count-cons t (getD was j 0) (drop (suc j) was), ← met, one-if-other (getD l j 0) t away, ← next) (omega (arith, w .passed));
+      }
+
+  -- at t the walk is over
+  pub walk-met : (from : ℕ) → from ≤ j → count t (drop from was) ≡ 1 → getD l j 0 ≡ t → set l j carried ≡ endMoved was from t
+  walk-met from low once here = put ∙ sym (moved-at t was from j low h (sym met ∙ here) once)
 
 pub length-moved : (l : List ℕ) (from t : ℕ) → length (endMoved l from t) ≡ length l
 length-moved l from t =
@@ -97,6 +137,11 @@ store-sent size l t p long h =
       line = (drop-at (take (6 * size) m) x (6 * size) (length-take-le (6 * size) m (omega arith)) ∙ ap (toEnd t) (drop-set-lt (6 * size) l t p (omega arith))) i;
     }
 
+-- a new place leaves a thread once in the line
+pub once-in-line : (size : ℕ) (l : List ℕ) (t p : ℕ) → Good size l → t < size → count t (drop (6 * size) (set l t p)) ≡ 1
+unfolding tablesOf
+once-in-line size l t p g h = ap (count t) (drop-set-lt (6 * size) l t p (omega arith)) ∙ g .line .once t h
+
 pub sent-left : (size : ℕ) (l l′ : List ℕ) (t p : ℕ) → Good size l → t < size → l′ ≡ endMoved (set l t p) (6 * size) t → Left size l′ (sent (tablesOf size l) t p)
 sent-left size l l′ t p g h e =
     let is : tablesOf size l′ ≡ sent (tablesOf size l) t p = ap (tablesOf size) e ∙ store-sent size l t p (g .long) h in
@@ -116,12 +161,6 @@ sent-left size l l′ t p g h e =
     }
 
 -- ---- the search along the line
-
--- a member of the line is a thread
-occurs : (l : List ℕ) (i : ℕ) → i < length l → 0 < count (getD l i 0) l
-occurs [] i h = absurd (omega arith)
-occurs (x ∷ l) zero h = rw (count-cons x x l, one-if-same x) (omega arith)
-occurs (x ∷ l) (suc i) h = rw (count-cons (getD l i 0) x l) (omega (arith, occurs l i (omega arith)))
 
 module _ (size : ℕ) (l : List ℕ) (g : Good size l) where
   line-is : tablesOf size l .line ≡ drop (6 * size) l
@@ -169,17 +208,6 @@ module _ (size : ℕ) (l : List ℕ) (g : Good size l) where
           let same : s ≡ t .0 = let z : Waiter t ≡ Waiter (record { 0 = s }) = sym e ∙ first-waiter (tablesOf size l) place s rest k in ap who (sym z) in
           let there = first-in-line (tablesOf size l) place s rest k in
           less-or-not (t .0) size (λ j. j) (λ j. absurd (omega (arith, there, rw (← same) at (g .line .no-other (t .0) j))))
-
--- one turn of the move: either way the rest of the move is the same
-pub record Turned (l l′ : List ℕ) (i t : ℕ) : Type 0 where
-  pub long : length l′ ≡ length l
-  pub moves : endMoved l i t ≡ endMoved l′ (i + 1) t
-
-pub turn-swapped : (l l′ : List ℕ) (i t : ℕ) → i + 1 < length l → getD l i 0 ≡ t → l′ ≡ set (set l i (getD l (i + 1) 0)) (i + 1) t → Turned l l′ i t
-turn-swapped l l′ i t h here e = record { long = ap length e ∙ simp length-set; moves = rw e (swapped l i t h here) }
-
-pub turn-passed : (l l′ : List ℕ) (i t : ℕ) → i + 1 < length l → getD l i 0 ≢ t → l′ ≡ l → Turned l l′ i t
-turn-passed l l′ i t h away e = record { long = ap length e; moves = rw e (passed l i t (omega arith) away) }
 
 -- whether a thread lives, by its place in the slice
 pub live-at : (size : ℕ) (l : List ℕ) (t : ℕ) → t < size → 1 < getD l t 0 → lives (tablesOf size l) t ≡ true

@@ -3,7 +3,8 @@
 ghost use mathlib.Core.Path.{_≡_};
 ghost use Prim.Native.Nat.{_+_, _*_, _<_, _≤_};
 ghost use lib.Dec.{eqb};
-ghost use lib.ListN.{getD, length};
+ghost use lib.ListN.{drop, getD, length};
+ghost use Rattle.machine.specs.Lists.{count};
 ghost use Rattle.machine.specs.Tables.{anyLive, ended, first, owned, ownerOf, placeOf, saved, sent, tablesOf, wakeAll};
 ghost use Rattle.tables.specs.Good.{Dequeued, Good, Left, endMoved};
 use machine::First;
@@ -90,18 +91,22 @@ pub fn own(tables: &mut [usize], size: usize, m: Mutex, owner: usize)
     tables[4 * size + at] = owner;
 }
 
-// Moves the first `t` from `from` on to the end of the slice.
+// Moves the one `t` from `from` on to the end of the slice. It walks back from the end, so that what stands before `t` is not read.
 fn to_end(tables: &mut [usize], from: usize, t: usize)
     requires { ⌜ from ≤ length (now tables) ⌝ }
+    requires { ⌜ count t (drop from (now tables)) ≡ 1 ⌝ }
     ensures { λ _. ⌜ now (tables .exit) ≡ endMoved (now (tables .entry)) from t ⌝ }
 {
-    let mut i = from;
-    while i + 1 < tables.len() {
-        if tables[i] == t {
-            tables[i] = tables[i + 1];
-            tables[i + 1] = t;
+    let mut carried = t;
+    let mut i = tables.len();
+    while from < i {
+        i -= 1;
+        let x = tables[i];
+        tables[i] = carried;
+        if x == t {
+            return;
         }
-        i += 1;
+        carried = x;
     }
 }
 

@@ -1,44 +1,58 @@
--- `instruction::operand` meets its contract: 24 bits are the number itself below 2^23, and 2^24 less above. Assumes nothing.
-use Prim.Native.Nat.{ℕ, _<_, _≤_, _%_}
-use mathlib.Core.Path.{_≡_, _∙_, ap}
+-- `instruction::operand` meets its contract: turned by 2^23, the 24 bits are the operand and 2^23 more. Assumes nothing.
+use Prim.Native.Nat.{ℕ, _+_, _-_, _<_, _≤_, _%_}
+use mathlib.Core.Bool.{Bool, true, false}
+use mathlib.Core.Path.{_≡_, _∙_, ap, refl, sym}
 use native.Mathlib.Omega.{arith}
 use borrow.Author.Needs.{needs}
-use borrow.Author.Tests.{lt-ltb, le-ltb}
-use lib.IntN.{ℤ, pos, _-ℤ_}
+use borrow.Author.Tests.{lt-ltb, le-ltb, ltb-true, ltb-false}
+use lib.Dec.{ltb}
+use lib.IntN.{ℤ, pos, negsuc, _-ℤ_}
 use mir.Syntax.{w32}
 use mir.Val.{SFits, toZ}
 use mir.Facts.{toZ-pos, toZ-ofZ}
+use Rattle.instruction.specs.Word.{signed24}
 use Rattle.instruction.proofs.operand.Statement.{statement}
 use Rattle.instruction.proofs.operand.Tie as tie
 
--- 24 bits read as an i32 are not negative
-read-back : (w : ℕ) → toZ w32 (w % 16777216) ≡ pos (w % 16777216)
-read-back w = toZ-pos w32 (omega arith)
+read-back : (x : ℕ) → toZ w32 (x % 16777216) ≡ pos (x % 16777216)
+read-back x = toZ-pos w32 (omega arith)
 
--- bits from 2^23 up, less 2^24, fit an i32
-fits : (b : ℕ) → 8388608 ≤ b → b < 16777216 → SFits w32 (pos b -ℤ pos 16777216)
-fits b low high = record { sfits = rw (lt-ltb b 16777216 high) (omega arith) }
+-- 24 bits less 2^23 fit an i32
+fits : (x : ℕ) (b : Bool) → ltb x 8388608 ≡ b → x < 16777216 → SFits w32 (pos x -ℤ pos 8388608)
+fits x true h high = record { sfits = rw h (omega arith) }
+fits x false h high = record { sfits = rw h (omega arith) }
 
-bits-of : (w : ℕ) → 8388608 ≤ w % 16777216 → SFits w32 (toZ w32 (w % 16777216) -ℤ pos 16777216)
-bits-of w h = rw (read-back w) (fits (w % 16777216) h (omega arith))
+-- the turned bits, by the sign
+low : (b : ℕ) → b < 8388608 → (b + 8388608) % 16777216 ≡ b + 8388608
+low b h = omega arith
+
+high : (b : ℕ) → 8388608 ≤ b → b < 16777216 → (b + 8388608) % 16777216 ≡ b - 8388608
+high b h k = omega arith
+
+-- less 2^23 they are the signed number
+is : (b : ℕ) (s : Bool) → ltb b 8388608 ≡ s → b < 16777216 → pos ((b + 8388608) % 16777216) -ℤ pos 8388608 ≡ signed24 b
+is b true h k = rw (low b (ltb-true b 8388608 h), h, le-ltb (b + 8388608) 8388608 (omega arith)) (ap pos (omega arith))
+is b false h k =
+    rw (high b (ltb-false b 8388608 h) k, h, lt-ltb (b - 8388608) 8388608 (omega (arith, ltb-false b 8388608 h, k)), lt-ltb b 16777216 k)
+    (ap negsuc (omega (arith, ltb-false b 8388608 h, k)))
+
+add-turned : tie.Need-add-turned
+add-turned c = search needs
 
 cast-result : tie.Need-cast-result
 cast-result c = search needs
 
-cast-result-2 : tie.Need-cast-result-2
-cast-result-2 c = search needs
+less : (w : ℕ) → SFits w32 (toZ w32 ((w % 16777216 + 8388608) % 16777216) -ℤ pos 8388608)
+less w = rw (read-back (w % 16777216 + 8388608)) (fits ((w % 16777216 + 8388608) % 16777216) _ refl (omega arith))
 
 sub-result : tie.Need-sub-result
-sub-result c = bits-of (c .before .args .w) (c .if1 .left)
+sub-result c = less (c .args .w)
 
 returns : tie.Need-returns
-returns c = read-back (c .before .args .w) ∙ rw (lt-ltb _ _ (c .if1 .taken))
-
-returns-2 : tie.Need-returns-2
-returns-2 c =
-    toZ-ofZ (bits-of (c .before .args .w) (c .if1 .left))
-    ∙ ap (λ z. z -ℤ pos 16777216) (read-back (c .before .args .w))
-    ∙ rw (le-ltb (c .before .args .w % 16777216) 8388608 (c .if1 .left))
+returns c =
+    toZ-ofZ (less (c .args .w))
+    ∙ ap (λ z. z -ℤ pos 8388608) (read-back (c .args .w % 16777216 + 8388608))
+    ∙ is (c .args .w % 16777216) _ refl (omega arith)
 
 pub operand-spec : {M : Type 1} → statement M
-operand-spec = tie.close (tie.spec cast-result cast-result-2 sub-result returns returns-2)
+operand-spec = tie.close (tie.spec add-turned cast-result sub-result returns)

@@ -4,7 +4,7 @@ use native.Mathlib.Omega.{arith}
 use borrow.Author.Needs.{needs}
 use denote.Ref.{now}
 use lib.ListN.{length, length-set}
-use Rattle.tables.proofs.Line.{sent-left}
+use Rattle.tables.proofs.Line.{once-in-line, sent-left}
 use Rattle.tables.proofs.send.Statement.{statement}
 use Rattle.tables.proofs.send.Tie as tie
 
@@ -18,7 +18,7 @@ mul-to-end : tie.Need-mul-to-end
 mul-to-end c = search needs
 
 to-end-requires : tie.Need-to-end-requires
-to-end-requires c κs = simp length-set (omega (arith, c .before .before .pre .0 .long))
+to-end-requires c κs = (simp length-set (omega (arith, c .before .before .pre .0 .long)), once-in-line _ _ _ _ (c .before .before .pre .0) (c .before .before .pre .1))
 
 same-length : tie.Need-same-length
 same-length c = c .before .before .to-end .kept .0 ∙ simp length-set

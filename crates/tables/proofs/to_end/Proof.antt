@@ -1,79 +1,56 @@
 -- `tables::to_end` meets its contract. Assumes nothing.
-use Prim.Native.Nat.{_-_, _≤_}
-use mathlib.Core.Path.{_≡_, refl, sym, ap, _∙_}
-use mathlib.Core.Logic.{⊎-elim}
+use Prim.Native.Nat.{_≤_}
+use mathlib.Core.Path.{_≡_, refl}
 use native.Mathlib.Omega.{arith}
 use borrow.Author.Needs.{needs}
-use denote.Ref.{now}
-use lib.ListN.{length, getD, set, length-set}
-use Rattle.tables.specs.Good.{endMoved}
-use Rattle.tables.proofs.Line.{Turned, at-end, turn-passed, turn-swapped}
+use lib.ListN.{length, length-set}
+use Rattle.tables.proofs.Line.{Walked, walk-met, walk-on, walk-start}
 use Rattle.tables.proofs.to_end.Statement.{statement}
 use Rattle.tables.proofs.to_end.Tie as tie
 
 abbrev Inv-loop : tie.InvT-loop
-Inv-loop tables₀ from t i₀ tables i = (length tables ≡ length tables₀) × (i ≤ length tables) × (endMoved tables₀ from t ≡ endMoved tables i t)
+Inv-loop tables₀ from t carried₀ i₀ tables carried i = (length tables ≡ length tables₀) × (from ≤ i) × (i ≤ length tables) × Walked tables₀ t tables carried i
 
 abbrev μ-loop : tie.MeasureT-loop
-μ-loop tables₀ from t i₀ tables i = length tables₀ - i
+μ-loop tables₀ from t carried₀ i₀ tables carried i = i
 
 loop-holds : tie.Need-loop-holds Inv-loop μ-loop
-loop-holds c = (refl, c .pre, refl)
+loop-holds c = (refl, c .pre .0, omega arith, walk-start _ _)
 
-add-loop : tie.Need-add-loop Inv-loop μ-loop
-add-loop c = search needs
+sub-i : tie.Need-sub-i Inv-loop μ-loop
+sub-i c = search needs
 
-mul-if1 : tie.Need-mul-if1 Inv-loop μ-loop
-mul-if1 c = search needs
+mul-x : tie.Need-mul-x Inv-loop μ-loop
+mul-x c = search needs
 
-slice-read-if1 : tie.Need-slice-read-if1 Inv-loop μ-loop
-slice-read-if1 c = search needs
-
-add-tables : tie.Need-add-tables Inv-loop μ-loop
-add-tables c = search needs
+slice-read-x : tie.Need-slice-read-x Inv-loop μ-loop
+slice-read-x c = search needs
 
 mul-tables : tie.Need-mul-tables Inv-loop μ-loop
 mul-tables c = search needs
 
-slice-read-tables : tie.Need-slice-read-tables Inv-loop μ-loop
-slice-read-tables c = search needs
-
-mul-tables-2 : tie.Need-mul-tables-2 Inv-loop μ-loop
-mul-tables-2 c = search needs
-
 slice-write-tables : tie.Need-slice-write-tables Inv-loop μ-loop
 slice-write-tables c = search needs
 
-add-tables-2 : tie.Need-add-tables-2 Inv-loop μ-loop
-add-tables-2 c = search needs
+same-length : tie.Need-same-length Inv-loop μ-loop
+same-length c = simp length-set (c .before .before .before .loop .inv .0)
 
-mul-tables-3 : tie.Need-mul-tables-3 Inv-loop μ-loop
-mul-tables-3 c = search needs
-
-slice-write-tables-2 : tie.Need-slice-write-tables-2 Inv-loop μ-loop
-slice-write-tables-2 c = simp length-set (omega arith)
-
-add-i : tie.Need-add-i Inv-loop μ-loop
-add-i c = search needs
+returns : tie.Need-returns Inv-loop μ-loop
+returns c = walk-met _ _ _ _ _ _ (c .before .before .before .loop .inv .3) (omega arith) (omega arith) (c .before .before .before .before .args .from) (omega arith) (c .before .before .before .before .pre .1) (c .if1 .taken)
 
 loop-less : tie.Need-loop-less Inv-loop μ-loop
 loop-less c = search needs
 
 loop-again : tie.Need-loop-again Inv-loop μ-loop
-loop-again c =
-    let l = c .before .before .before .loop .tables in
-    let turned : Turned l (c .if1 .tables) (c .before .before .before .loop .i) (c .before .before .before .before .args .t) =
-    ⊎-elim
-    (λ w. turn-swapped l (c .if1 .tables) (c .before .before .before .loop .i) (c .before .before .before .before .args .t) (c .before .before .loop-test .taken) (w .0 .taken) (w .2))
-    (λ w. turn-passed l (c .if1 .tables) (c .before .before .before .loop .i) (c .before .before .before .before .args .t) (c .before .before .loop-test .taken) (w .0 .left) (w .1))
-    (c .if1 .came) in
-    (turned .long ∙ c .before .before .before .loop .inv .0, omega (arith, turned .long, c .before .before .loop-test .taken), c .before .before .before .loop .inv .2 ∙ turned .moves)
+loop-again c = (simp length-set (c .before .before .before .loop .inv .0), omega arith, simp length-set (omega arith), walk-on _ _ _ _ _ _ (c .before .before .before .loop .inv .3) (omega arith) (omega arith) (c .if1 .left))
 
-same-length : tie.Need-same-length Inv-loop μ-loop
-same-length c = c .before .loop .inv .0
+same-length-2 : tie.Need-same-length-2 Inv-loop μ-loop
+same-length-2 c = c .before .loop .inv .0
 
-returns : tie.Need-returns Inv-loop μ-loop
-returns c = sym (c .before .loop .inv .2 ∙ at-end _ _ _ (c .loop-test .left))
+returns-2 : tie.Need-returns-2 Inv-loop μ-loop
+returns-2 c =
+    let all : c .before .loop .i ≡ c .before .before .args .from = omega arith in
+    absurd (omega (arith, rw all at (c .before .loop .inv .3 .passed), c .before .before .pre .1))
 
 pub to-end-spec : {M : Type 1} → statement M
 to-end-spec =
@@ -82,19 +59,14 @@ to-end-spec =
     Inv-loop
     μ-loop
     loop-holds
-    add-loop
-    mul-if1
-    slice-read-if1
-    add-tables
+    sub-i
+    mul-x
+    slice-read-x
     mul-tables
-    slice-read-tables
-    mul-tables-2
     slice-write-tables
-    add-tables-2
-    mul-tables-3
-    slice-write-tables-2
-    add-i
+    same-length
+    returns
     loop-less
     loop-again
-    same-length
-    returns)
+    same-length-2
+    returns-2)

@@ -1,12 +1,12 @@
--- `engine::on_cells::natural` meets its contract. Assumes nothing.
+-- `engine::dispatch::natural` meets its contract. Assumes nothing.
 use Prim.Native.Nat.{ℕ}
 use mathlib.Core.Path.{_≡_, refl, sym, ap, _∙_}
 use native.Mathlib.Omega.{arith}
 use borrow.Author.Needs.{needs}
 use mir.Facts.{fits-natAbs, toZ-ofZ}
 use Rattle.engine.proofs.Opcodes.{not-negative}
-use Rattle.engine.proofs.on_cells.natural.Statement.{statement}
-use Rattle.engine.proofs.on_cells.natural.Tie as tie
+use Rattle.engine.proofs.dispatch.natural.Statement.{statement}
+use Rattle.engine.proofs.dispatch.natural.Tie as tie
 
 cast-result : tie.Need-cast-result
 cast-result c = rw (toZ-ofZ (c .fits .k)) (not-negative (c .args .k) (c .pre), fits-natAbs tt (c .fits .k))
