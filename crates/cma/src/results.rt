@@ -13,13 +13,13 @@ pub struct Outcome {
 }
 
 // A call that changes nothing.
-pub fn refused(number: usize, place: usize, registers: Registers) -> Outcome
-    ensures { λ r. ⌜ r ≡ refusal number place registers ⌝ }
+pub fn refused(number: usize, place: usize, r: Registers) -> Outcome
+    ensures { λ o. ⌜ o ≡ refusal number place r ⌝ }
 {
     Outcome {
         answer: Answer::Refused { number, place },
         count: 0,
-        registers,
+        registers: r,
     }
 }
 

@@ -12,6 +12,7 @@ use crate::numbers::a_condition;
 use crate::numbers::a_mutex;
 use crate::numbers::next_number;
 use machine::Condition;
+use machine::First;
 use machine::Registers;
 
 pub fn newcond(store: &mut [i32], size: usize, r: Registers) -> Registers
@@ -67,7 +68,10 @@ fn wake_first(tables: &mut [usize], size: usize, c: Condition)
     requires { ⌜ c .0 < 2 * size ⌝ }
     ensures { λ _. ⌜ Left size (now (tables .exit)) (wakeFirst (tablesOf size (now (tables .entry))) (atCondition size (c .0))) ⌝ }
 {
-    tables::dequeue(tables, size, 4 + 2 * size + c.0, tables::READY);
+    let First::Waiter(_) = tables::dequeue(tables, size, 4 + 2 * size + c.0, tables::READY) else {
+        // Nobody waits, and the signal is not remembered.
+        return;
+    };
 }
 
 // All who wait for a condition are ready, in their order.
