@@ -1,0 +1,27 @@
+-- `leprahoon::cards::leprahoon_line` meets its contract. Assumes nothing.
+use mathlib.Core.Path.{ap, _∙_}
+use borrow.Author.Needs.{needs}
+use Rattle.leprahoon.specs.Lists.{lineLength}
+use Rattle.leprahoon.proofs.cards.leprahoon_line.Statement.{statement}
+use Rattle.leprahoon.proofs.cards.leprahoon_line.Tie as tie
+
+runner-line-requires : tie.Need-runner-line-requires
+runner-line-requires c κs = search needs
+
+length-of-requires : tie.Need-length-of-requires
+length-of-requires c κs = search needs
+
+same-length : tie.Need-same-length
+same-length c = search needs
+
+returns : tie.Need-returns
+returns c =
+    let p = c .before .before .before .runner-line .ensures in
+    record {
+      answered = c .length-of .ensures ∙ ap lineLength (p .answered);
+      left = rw (← p .answered) (p .left);
+    }
+
+pub leprahoon-line-spec : {M : Type 1} → statement M
+leprahoon-line-spec =
+    tie.close (tie.spec runner-line-requires length-of-requires same-length returns)

@@ -1,0 +1,82 @@
+-- The machine's calls with lists of numbers in the place of structs and enums, as C can lend them.
+use Prim.Native.Nat.{ℕ}
+use mathlib.Core.List.{List, [], _∷_}
+use mathlib.Core.Path.{_≡_, refl}
+use lib.IntN.{ℤ}
+use lib.ListN.{getD, length}
+use Rattle.card.specs.Writing.{bufferOf, writeOf}
+use Rattle.card.specs.declared.reader.Reading.{Reading}
+use Rattle.card.specs.declared.reader.Reading.the-variants as reading
+use Rattle.card.specs.declared.writer.Writing.{Writing}
+use Rattle.card.specs.declared.writer.Writing.the-variants as writing
+use Rattle.line.specs.Line.{lineAnswer, lineLeft}
+use Rattle.line.specs.declared.answers.Line.{Line}
+use Rattle.line.specs.declared.answers.Line.the-variants as line
+use Rattle.machine.specs.Calls.{Called, countOf}
+use Rattle.machine.specs.declared.answers.Answer.{Answer}
+use Rattle.machine.specs.declared.answers.Answer.the-variants.{Halted, Running, Stuck, Faulted, Refused}
+use Rattle.machine.specs.declared.registers.Registers.{Registers}
+
+-- the registers as ten numbers
+abbrev pub listOf : Registers → List ℕ
+listOf r =
+    r .state ∷ r .fault ∷ r .thread ∷ r .pc ∷ r .cells ∷ r .fp ∷ r .free ∷ r .threads ∷ r .mutexes ∷ r .conditions ∷ []
+
+-- and back
+abbrev pub registersOf : List ℕ → Registers
+registersOf l =
+    record {
+      state = getD l 0 0;
+      fault = getD l 1 0;
+      thread = getD l 2 0;
+      pc = getD l 3 0;
+      cells = getD l 4 0;
+      fp = getD l 5 0;
+      free = getD l 6 0;
+      threads = getD l 7 0;
+      mutexes = getD l 8 0;
+      conditions = getD l 9 0;
+    }
+
+there-and-back : (r : Registers) → registersOf (listOf r) ≡ r
+there-and-back r = refl
+
+-- an answer and a count as four numbers: the state (4 for a refused call), number, place, count
+abbrev pub answerList : Answer → ℕ → List ℕ
+answerList Halted count = 0 ∷ 0 ∷ 0 ∷ count ∷ []
+answerList Running count = 1 ∷ 0 ∷ 0 ∷ count ∷ []
+answerList Stuck count = 2 ∷ 0 ∷ 0 ∷ count ∷ []
+answerList (Faulted number place) count = 3 ∷ number ∷ place ∷ count ∷ []
+answerList (Refused number place) count = 4 ∷ number ∷ place ∷ count ∷ []
+
+-- what a call leaves in everything that it was lent
+pub record Reports (called : Called) (store : List ℤ) (tables : List ℕ) (values : List ℤ) (registers report : List ℕ) : Type 0 where
+  pub in-store : store ≡ called .box .store
+  pub in-tables : tables ≡ called .box .tables
+  pub in-values : values ≡ called .box .values
+  pub in-registers : registers ≡ listOf (called .box .regs)
+  pub reported : report ≡ answerList (called .answer) (countOf called)
+
+-- the reader's answer as three numbers: the refusal's number, or 0, its place, and the global cells
+abbrev pub readList : Reading → List ℕ
+readList (reading.Accepted cells) = 0 ∷ 0 ∷ cells ∷ []
+readList (reading.Refused number place) = number ∷ place ∷ 0 ∷ []
+
+-- the writer's: the refusal's number, or 0, its place, and the image's size
+abbrev pub writeList : Writing → List ℕ
+writeList (writing.Written size) = 0 ∷ 0 ∷ size ∷ []
+writeList (writing.Refused number place) = number ∷ place ∷ 0 ∷ []
+
+-- what the writer leaves
+pub record WroteList (cells : ℕ) (list before after report : List ℕ) : Type 0 where
+  pub reported : report ≡ writeList (writeOf cells list (length before))
+  pub left : after ≡ bufferOf (writeOf cells list (length before)) cells list before
+
+-- the runner's line: its length, or 0 where there is no room
+abbrev pub lineLength : Line → ℕ
+lineLength (line.Written length) = length
+lineLength line.NoRoom = 0
+
+pub record PrintsLine (input before after : List ℕ) (answer : ℕ) : Type 0 where
+  pub answered : answer ≡ lineLength (lineAnswer input (length before))
+  pub left : after ≡ lineLeft (lineAnswer input (length before)) input before
