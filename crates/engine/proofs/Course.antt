@@ -24,7 +24,7 @@ use Rattle.machine.specs.State.{State}
 use Rattle.machine.specs.Step.{Ran, carried, countOf, joined, run, still}
 use Rattle.machine.specs.Tables.{tablesOf}
 use Rattle.machine.specs.declared.registers.Registers.{Registers}
-use Rattle.stack.specs.Contract.{at}
+use Rattle.cells.specs.Contract.{at}
 
 -- a run of m from a state has come to another, with so many carried out
 pub record Course (size : ℕ) (words : List ℕ) (start : State) (m : ℕ) (s : State) (count : ℕ) : Type 0 where

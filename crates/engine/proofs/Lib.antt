@@ -1,3 +1,3 @@
-pub mod Opcodes
+pub mod Operands
 pub mod Working
 pub mod Course

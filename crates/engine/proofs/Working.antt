@@ -9,8 +9,9 @@ use lib.ListN.{length, getD}
 use borrow.Author.Tests.{le-ltb, lt-ltb}
 use Rattle.card.proofs.Words.{count, word}
 use Rattle.card.specs.Code.{instructionAt, wordsOf}
-use Rattle.engine.specs.Contract.{Carded, Permitted, Working, boxed}
-use Rattle.engine.proofs.Opcodes.{count-fits, target-natural}
+use Rattle.dispatch.specs.Contract.{Permitted, Working}
+use Rattle.engine.specs.Contract.{Carded, boxed}
+use Rattle.engine.proofs.Operands.{count-fits, target-natural}
 use Rattle.machine.proofs.Held.{card-of}
 use Rattle.machine.proofs.Laws.{sound-held}
 use Rattle.machine.proofs.Targets.{Card}

@@ -1,5 +1,4 @@
 // The engine: one instruction, and a run of many, of a machine that is in order. Inner: the public calls test their input first.
-mod dispatch;
 mod runs;
 
 pub use runs::Progress;

@@ -3,7 +3,7 @@ ghost use Prim.Native.Nat.{_≤_};
 ghost use mathlib.Core.Path.{_≡_};
 ghost use Rattle.engine.specs.Contract.{Carded, Carries, Lasts, boxed};
 ghost use Rattle.machine.specs.Laws.{Sound};
-use crate::dispatch::execute;
+use dispatch::execute;
 use machine::Registers;
 
 const RUNNING: usize = 1;

@@ -65,7 +65,7 @@ fn put_result(out: &mut [u8], at: usize, tables: &[usize], values: &[i32]) -> us
     ensures { λ r. ⌜ r ≤ at + 21 ⌝ }
 {
     if tables::has_ended(tables, 32, Thread(0)) {
-        text::put_signed(out, at, stack::read(values, 0))
+        text::put_signed(out, at, cells::read(values, 0))
     } else {
         text::put_byte(out, at, 45)
     }

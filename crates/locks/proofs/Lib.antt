@@ -1,2 +1,1 @@
 pub mod Owners
-pub mod Waking

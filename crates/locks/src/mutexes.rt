@@ -3,7 +3,7 @@ ghost use Prim.Native.Nat.{_*_, _<_};
 ghost use lib.ListN.{length};
 ghost use Rattle.machine.specs.Instructions.{lock, newmutex, unlock};
 ghost use Rattle.machine.specs.Tables.{tablesOf, unlocked};
-ghost use Rattle.stack.specs.Contract.{Able, Acts, Does, Made};
+ghost use Rattle.cells.specs.Contract.{Able, Acts, Does, Made};
 ghost use Rattle.tables.specs.Good.{Good, Left};
 use crate::numbers::AMutex;
 use crate::numbers::a_mutex;
@@ -21,7 +21,7 @@ pub fn newmutex(store: &mut [i32], size: usize, r: Registers) -> Registers
         return r.stop(22);
     }
     let made = r.mutexes;
-    stack::poke(store, size, r.thread, cells, next_number(made, 2 * size));
+    cells::poke(store, size, r.thread, cells, next_number(made, 2 * size));
     let q = r.advance().with_cells(cells + 1);
     if made < 2 * size {
         q.with_made(r.threads, made + 1, r.conditions)
@@ -41,7 +41,7 @@ pub fn lock(store: &[i32], tables: &mut [usize], size: usize, r: Registers) -> R
     if cells < 1 {
         return r.stop(21);
     }
-    let top = stack::peek(store, size, r.thread, cells - 1);
+    let top = cells::peek(store, size, r.thread, cells - 1);
     let AMutex::Made(m) = a_mutex(top, r.mutexes) else {
         return r.stop(27);
     };
@@ -65,7 +65,7 @@ pub fn unlock(store: &[i32], tables: &mut [usize], size: usize, r: Registers) ->
     if cells < 1 {
         return r.stop(21);
     }
-    let top = stack::peek(store, size, r.thread, cells - 1);
+    let top = cells::peek(store, size, r.thread, cells - 1);
     let AMutex::Made(m) = a_mutex(top, r.mutexes) else {
         return r.stop(27);
     };

@@ -5,7 +5,7 @@ ghost use lib.IntN.{pos};
 ghost use lib.ListN.{length};
 ghost use Rattle.machine.specs.Instructions.{instructionOf};
 ghost use Rattle.operators.specs.Operators.{computed, divided};
-ghost use Rattle.stack.specs.Contract.{Able, Does};
+ghost use Rattle.cells.specs.Contract.{Able, Does};
 use arithmetic::Number;
 use machine::Registers;
 
@@ -45,11 +45,11 @@ pub fn binary(store: &mut [i32], size: usize, r: Registers, op: u32) -> Register
     if cells < 2 {
         return r.stop(21);
     }
-    let below = stack::peek(store, size, r.thread, cells - 2);
-    let top = stack::peek(store, size, r.thread, cells - 1);
+    let below = cells::peek(store, size, r.thread, cells - 2);
+    let top = cells::peek(store, size, r.thread, cells - 1);
     let Number::Value(v) = compute(op, below, top) else {
         return r.stop(24);
     };
-    stack::poke(store, size, r.thread, cells - 2, v);
+    cells::poke(store, size, r.thread, cells - 2, v);
     r.advance().with_cells(cells - 1)
 }

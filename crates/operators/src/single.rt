@@ -1,7 +1,7 @@
 // The operators on top alone.
 ghost use lib.ListN.{length};
 ghost use Rattle.machine.specs.Instructions.{neg, not};
-ghost use Rattle.stack.specs.Contract.{Able, Does};
+ghost use Rattle.cells.specs.Contract.{Able, Does};
 use arithmetic::Number;
 use machine::Registers;
 
@@ -13,11 +13,11 @@ pub fn neg(store: &mut [i32], size: usize, r: Registers) -> Registers
     if cells < 1 {
         return r.stop(21);
     }
-    let top = stack::peek(store, size, r.thread, cells - 1);
+    let top = cells::peek(store, size, r.thread, cells - 1);
     let Number::Value(v) = arithmetic::neg(top) else {
         return r.stop(24);
     };
-    stack::poke(store, size, r.thread, cells - 1, v);
+    cells::poke(store, size, r.thread, cells - 1, v);
     r.advance()
 }
 
@@ -29,8 +29,8 @@ pub fn not(store: &mut [i32], size: usize, r: Registers) -> Registers
     if cells < 1 {
         return r.stop(21);
     }
-    let top = stack::peek(store, size, r.thread, cells - 1);
+    let top = cells::peek(store, size, r.thread, cells - 1);
     let v = arithmetic::truth(arithmetic::is_zero(top));
-    stack::poke(store, size, r.thread, cells - 1, v);
+    cells::poke(store, size, r.thread, cells - 1, v);
     r.advance()
 }

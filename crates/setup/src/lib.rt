@@ -59,9 +59,9 @@ pub fn start(
     ensures { λ r. ⌜ Started size cells (now (store .exit)) (now (tables .exit)) (now (values .exit)) r ⌝ }
 {
     clear(store);
-    stack::poke(store, size, 0, 0, 0);
-    stack::poke(store, size, 0, 1, -1);
-    stack::poke(store, size, 0, 2, -1);
+    cells::poke(store, size, 0, 0, 0);
+    cells::poke(store, size, 0, 1, -1);
+    cells::poke(store, size, 0, 2, -1);
     start_tables(tables, size);
     clear(values);
     Registers {

@@ -1,12 +1,12 @@
 // Cells of the running function's frame, by their distance from FP.
 ghost use Rattle.machine.specs.Instructions.{loadr, storer};
-ghost use Rattle.stack.specs.Contract.{Able, Does};
+ghost use Rattle.cells.specs.Contract.{Able, Does};
 ghost use lib.ListN.{length};
-use crate::cells::peek;
-use crate::cells::poke;
 use crate::constants::loadc;
-use crate::index::Index;
-use crate::index::offset;
+use cells::Index;
+use cells::offset;
+use cells::peek;
+use cells::poke;
 use machine::Registers;
 
 pub fn loadr(store: &mut [i32], size: usize, r: Registers, k: i32) -> Registers

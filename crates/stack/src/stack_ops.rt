@@ -1,11 +1,11 @@
 // The stack itself: cells come and go at its top.
 ghost use Prim.Native.Nat.{_<_, _≤_};
 ghost use Rattle.machine.specs.Instructions.{alloc, dup, mark, pop};
-ghost use Rattle.stack.specs.Contract.{Able, Does, DoesAnywhere};
+ghost use Rattle.cells.specs.Contract.{Able, Does, DoesAnywhere};
 ghost use lib.ListN.{length};
-use crate::cells::peek;
-use crate::cells::poke;
 use crate::constants::loadc;
+use cells::peek;
+use cells::poke;
 use machine::Registers;
 
 pub fn alloc(store: &mut [i32], size: usize, r: Registers, k: usize) -> Registers

@@ -5,8 +5,8 @@ use lib.IntN.{ℤ}
 use mir.Syntax.{w32}
 use mir.Val.{SFits, toZ, ofZ}
 use mir.Facts.{toZ-ofZ}
-use Rattle.stack.specs.Contract.{indexOf}
-use Rattle.stack.specs.declared.index.Index.{Index}
+use Rattle.cells.specs.Contract.{indexOf}
+use Rattle.cells.specs.declared.index.Index.{Index}
 
 -- what a check answered of the local, said of the cell
 pub looked : (local cell : ℤ) (limit : ℕ) (answer : Index) → SFits w32 local → local ≡ cell → indexOf (toZ w32 (ofZ w32 local)) limit ≡ answer → indexOf cell limit ≡ answer

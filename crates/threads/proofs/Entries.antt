@@ -10,10 +10,10 @@ use Rattle.machine.specs.Execution.{Outcome, combined, created, creating, done,
 use Rattle.machine.specs.Instructions as instr
 use Rattle.machine.specs.State.{State, below, minusOne}
 use Rattle.machine.proofs.Equations.{create-is}
-use Rattle.stack.specs.Contract.{indexOf}
-use Rattle.stack.specs.declared.index.Index.{Index}
-use Rattle.stack.specs.declared.index.Index.the-variants.{In, Out}
-use Rattle.stack.proofs.Tests.{needs-met, within-in, within-out}
+use Rattle.cells.specs.Contract.{indexOf}
+use Rattle.cells.specs.declared.index.Index.{Index}
+use Rattle.cells.specs.declared.index.Index.the-variants.{In, Out}
+use Rattle.cells.proofs.Tests.{needs-met, within-in, within-out}
 use Rattle.threads.specs.declared.makes.Entry.{Entry}
 use Rattle.threads.specs.declared.makes.Entry.the-variants.{At, Full, Wrong}
 use Rattle.threads.specs.Entries.{entryAt, entryOf}

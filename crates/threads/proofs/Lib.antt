@@ -1,4 +1,3 @@
 pub mod Ready
 pub mod Checks
-pub mod Frames
 pub mod Entries

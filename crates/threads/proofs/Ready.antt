@@ -12,7 +12,7 @@ use Rattle.machine.specs.declared.numbers.Thread.{Thread}
 use Rattle.machine.specs.declared.numbers.First.{First}
 use Rattle.machine.specs.declared.numbers.First.the-variants.{Waiter, Nobody}
 use Rattle.machine.specs.declared.registers.Registers.{Registers}
-use Rattle.stack.specs.Contract.{at}
+use Rattle.cells.specs.Contract.{at}
 use Rattle.tables.specs.Good.{Dequeued, taken}
 
 -- what a queue gave, and the tables without it

@@ -3,9 +3,9 @@ use Prim.Native.Nat.{ℕ}
 use mathlib.Core.Bool.{Bool, cond}
 use lib.Dec.{ltb}
 use lib.IntN.{ℤ}
-use Rattle.stack.specs.Contract.{indexOf}
-use Rattle.stack.specs.declared.index.Index.{Index}
-use Rattle.stack.specs.declared.index.Index.the-variants.{In, Out}
+use Rattle.cells.specs.Contract.{indexOf}
+use Rattle.cells.specs.declared.index.Index.{Index}
+use Rattle.cells.specs.declared.index.Index.the-variants.{In, Out}
 use Rattle.threads.specs.declared.makes.Entry.{Entry}
 use Rattle.threads.specs.declared.makes.Entry.the-variants.{At, Full, Wrong}
 

@@ -3,21 +3,21 @@ ghost use mathlib.Core.Path.{_≡_};
 ghost use lib.ListN.{length};
 ghost use Rattle.machine.specs.Instructions.{create};
 ghost use Rattle.machine.specs.State.{newStack};
-ghost use Rattle.stack.specs.Contract.{Able, ActsIn, CellOf};
+ghost use Rattle.cells.specs.Contract.{Able, ActsIn, CellOf};
 ghost use Rattle.tables.specs.Good.{Good};
 ghost use Rattle.threads.specs.Entries.{entryOf};
+use cells::Index;
 use machine::Registers;
 use machine::Thread;
-use stack::Index;
 
 // The stack of a new thread: its argument, and no frame to return to.
 fn new_stack(store: &mut [i32], size: usize, t: Thread, v: i32)
     requires { ⌜ CellOf size (t .0) 2 (length (now store)) ⌝ }
     ensures { λ _. ⌜ now (store .exit) ≡ newStack size (now (store .entry)) (t .0) v ⌝ }
 {
-    stack::poke(store, size, t.0, 0, v);
-    stack::poke(store, size, t.0, 1, -1);
-    stack::poke(store, size, t.0, 2, -1);
+    cells::poke(store, size, t.0, 0, v);
+    cells::poke(store, size, t.0, 1, -1);
+    cells::poke(store, size, t.0, 2, -1);
 }
 
 // What create finds below the top: a thread's entry, with room for the thread or without, or no entry.
@@ -31,7 +31,7 @@ pub enum Entry {
 fn entry_of(v: i32, n: usize, made: usize, size: usize) -> Entry
     ensures { λ e. ⌜ e ≡ entryOf v n made size ⌝ }
 {
-    let Index::In(at) = stack::checked(v, n) else {
+    let Index::In(at) = cells::checked(v, n) else {
         return Entry::Wrong;
     };
     if made < size {
@@ -56,19 +56,19 @@ pub fn create(
     if cells < 2 {
         return r.stop(21);
     }
-    let below = stack::peek(store, size, r.thread, cells - 2);
+    let below = cells::peek(store, size, r.thread, cells - 2);
     let made = r.threads;
     match entry_of(below, n, made, size) {
         Entry::Wrong => r.stop(25),
         Entry::Full => {
-            stack::poke(store, size, r.thread, cells - 2, -1);
+            cells::poke(store, size, r.thread, cells - 2, -1);
             r.advance().with_cells(cells - 1)
         }
         Entry::At(entry) => {
-            let top = stack::peek(store, size, r.thread, cells - 1);
+            let top = cells::peek(store, size, r.thread, cells - 1);
             let t = Thread(made);
             new_stack(store, size, t, top);
-            stack::poke(store, size, r.thread, cells - 2, made as i32);
+            cells::poke(store, size, r.thread, cells - 2, made as i32);
             tables::save(tables, size, t, entry, 3, 2);
             tables::send(tables, size, t, tables::READY);
             r.advance()

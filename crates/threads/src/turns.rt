@@ -8,7 +8,7 @@ ghost use Rattle.machine.specs.Instructions.{yield};
 ghost use Rattle.machine.specs.Registers.{halted, nobody, stuck, withState};
 ghost use Rattle.machine.specs.State.{blocked, left, next};
 ghost use Rattle.machine.specs.Tables.{anyLive, tablesOf};
-ghost use Rattle.stack.specs.Contract.{Acts};
+ghost use Rattle.cells.specs.Contract.{Acts};
 ghost use Rattle.tables.specs.Good.{Good};
 ghost use Rattle.threads.specs.Contract.{Goes};
 use machine::First;

@@ -16,7 +16,7 @@ use Rattle.machine.specs.WellFormed.{allBelow, countsFit, inRange, lineFits, re
 use Rattle.machine.specs.declared.registers.Registers.{Registers}
 use Rattle.machine.proofs.Every.{and-first, and-second, and-true, below-none, every-true, true-and}
 use Rattle.machine.proofs.Lists.{cases, clash, one-if}
-use Rattle.stack.specs.Contract.{Made}
+use Rattle.cells.specs.Contract.{Made}
 use Rattle.tables.specs.Good.{Good}
 
 module _ (bound : ℕ) (l : List ℕ) (i : ℕ) where

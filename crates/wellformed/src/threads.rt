@@ -4,7 +4,7 @@ ghost use Prim.Native.Nat.{_<_, _≤_};
 ghost use Rattle.machine.specs.Lists.{every};
 ghost use Rattle.machine.specs.Tables.{tablesOf};
 ghost use Rattle.machine.specs.WellFormed.{savedFits, threadFits, waitFits};
-ghost use Rattle.stack.specs.Contract.{Made};
+ghost use Rattle.cells.specs.Contract.{Made};
 ghost use Rattle.tables.specs.Good.{Good};
 use crate::ranges::frame_fits;
 use machine::Mutex;

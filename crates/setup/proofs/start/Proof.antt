@@ -7,7 +7,7 @@ use Rattle.setup.proofs.start.Reads as reads
 use Rattle.setup.proofs.start.Lts as lts
 use Rattle.setup.proofs.clear.Reads as clear-reads
 use Rattle.setup.proofs.start_tables.Reads as start-tables-reads
-use Rattle.stack.proofs.poke.Reads as poke-reads
+use Rattle.cells.proofs.poke.Reads as poke-reads
 
 -- src/lib.rt:57:5
 clear-requires : tie.Need-clear-requires

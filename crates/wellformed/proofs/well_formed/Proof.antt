@@ -3,7 +3,7 @@ use mathlib.Core.Path.{sym, _∙_}
 use borrow.Author.Tests.{not-true, not-false}
 use denote.Ref.{now}
 use Rattle.machine.specs.WellFormed.{formed, wellFormed}
-use Rattle.stack.specs.Contract.{Made}
+use Rattle.cells.specs.Contract.{Made}
 use Rattle.tables.specs.Good.{Good}
 use Rattle.wellformed.proofs.Loops.{good, made}
 use borrow.Author.Needs.{needs}

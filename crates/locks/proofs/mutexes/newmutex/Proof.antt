@@ -6,7 +6,7 @@ use borrow.Author.Tests.{le-ltb, lt-ltb}
 use mir.Syntax.{w32}
 use mir.Facts.{toZ-ofZ}
 use Rattle.machine.proofs.Equations.{carries, faults, newmutex-is}
-use Rattle.stack.proofs.Tests.{rooms-full, rooms-met}
+use Rattle.cells.proofs.Tests.{rooms-full, rooms-met}
 use Rattle.locks.proofs.mutexes.newmutex.Statement.{statement}
 use Rattle.locks.proofs.mutexes.newmutex.Tie as tie
 

@@ -9,9 +9,9 @@ use lib.ListN.{getD}
 use mir.Syntax.{w32}
 use mir.Val.{toZ, ofZ}
 use Rattle.machine.specs.Size.{stackAt}
-use Rattle.stack.specs.Contract.{indexOf}
-use Rattle.stack.specs.declared.index.Index.the-variants.{In}
-use Rattle.stack.proofs.Tests.{in-below, needs-less, needs-met, within-in, within-out}
+use Rattle.cells.specs.Contract.{indexOf}
+use Rattle.cells.specs.declared.index.Index.the-variants.{In}
+use Rattle.cells.proofs.Tests.{in-below, needs-less, needs-met, within-in, within-out}
 use Rattle.threads.proofs.Checks.{looked}
 use Rattle.locks.specs.Numbers.{mutexNumber}
 use Rattle.machine.proofs.Equations.{carries, faults, unlock-is}

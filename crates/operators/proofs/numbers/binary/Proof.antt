@@ -10,7 +10,7 @@ use mir.Syntax.{w32}
 use mir.Facts.{toZ-ofZ}
 use Rattle.machine.specs.Size.{stackAt}
 use Rattle.machine.proofs.Equations.{carries, faults}
-use Rattle.stack.proofs.Tests.{needs-less, needs-met}
+use Rattle.cells.proofs.Tests.{needs-less, needs-met}
 use Rattle.operators.specs.Operators.{computed}
 use Rattle.operators.proofs.Outcomes.{binary-is, numbered-beyond, numbered-value}
 use Rattle.operators.proofs.numbers.binary.Statement.{statement}

@@ -9,7 +9,7 @@ use mir.Syntax.{w32}
 use mir.Facts.{toZ-ofZ}
 use Rattle.machine.specs.Size.{stackAt}
 use Rattle.machine.proofs.Equations.{carries, faults}
-use Rattle.stack.proofs.Tests.{needs-less, needs-met}
+use Rattle.cells.proofs.Tests.{needs-less, needs-met}
 use Rattle.arithmetic.specs.Arithmetic.{narrowed}
 use Rattle.operators.proofs.Outcomes.{neg-numbered, numbered-beyond, numbered-value}
 use borrow.Author.Needs.{needs, sfits-of}

@@ -4,7 +4,7 @@ use native.Mathlib.Omega.{arith}
 use borrow.Author.Needs.{needs}
 use mir.Facts.{toZ-ofZ}
 use Rattle.machine.proofs.Equations.{carries, faults, loadc-is}
-use Rattle.stack.proofs.Tests.{rooms-full, rooms-met}
+use Rattle.cells.proofs.Tests.{rooms-full, rooms-met}
 use Rattle.stack.proofs.constants.loadc.Statement.{statement}
 use Rattle.stack.proofs.constants.loadc.Tie as tie
 

@@ -5,7 +5,7 @@ use borrow.Author.Needs.{needs}
 use lib.IntN.{pos, _+ℤ_}
 use Rattle.machine.specs.Execution.{rooms}
 use Rattle.machine.proofs.Equations.{faults, loadr-is}
-use Rattle.stack.proofs.Tests.{in-below, of-frame, pushes, rooms-full, rooms-met, within-in, within-out}
+use Rattle.cells.proofs.Tests.{in-below, of-frame, pushes, rooms-full, rooms-met, within-in, within-out}
 use Rattle.stack.proofs.frames.loadr.Statement.{statement}
 use Rattle.stack.proofs.frames.loadr.Tie as tie
 

@@ -4,7 +4,7 @@ use native.Mathlib.Omega.{arith}
 use borrow.Author.Needs.{needs}
 use lib.IntN.{pos, _+ℤ_}
 use Rattle.machine.proofs.Equations.{carries, faults, storer-is}
-use Rattle.stack.proofs.Tests.{in-below, needs-less, needs-met, of-frame, read-back, within-in, within-out}
+use Rattle.cells.proofs.Tests.{in-below, needs-less, needs-met, of-frame, read-back, within-in, within-out}
 use Rattle.stack.proofs.frames.storer.Statement.{statement}
 use Rattle.stack.proofs.frames.storer.Tie as tie
 

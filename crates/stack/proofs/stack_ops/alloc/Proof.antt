@@ -9,7 +9,7 @@ use lib.ListN.{length, length-set, replicate, set}
 use lib.Seq.{sets}
 use Rattle.machine.specs.Size.{stackAt}
 use Rattle.machine.proofs.Equations.{alloc-is, carries, faults}
-use Rattle.stack.proofs.Tests.{rooms-full, rooms-met}
+use Rattle.cells.proofs.Tests.{rooms-full, rooms-met}
 use Rattle.stack.proofs.stack_ops.alloc.Statement.{statement}
 use Rattle.stack.proofs.stack_ops.alloc.Tie as tie
 

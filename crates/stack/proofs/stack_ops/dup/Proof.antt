@@ -3,7 +3,7 @@ use mathlib.Core.Path.{_∙_}
 use native.Mathlib.Omega.{arith}
 use borrow.Author.Needs.{needs}
 use Rattle.machine.proofs.Equations.{dup-is, faults}
-use Rattle.stack.proofs.Tests.{needs-less, needs-met, pushes}
+use Rattle.cells.proofs.Tests.{needs-less, needs-met, pushes}
 use Rattle.stack.proofs.stack_ops.dup.Statement.{statement}
 use Rattle.stack.proofs.stack_ops.dup.Tie as tie
 

@@ -4,7 +4,7 @@ use native.Mathlib.Omega.{arith}
 use borrow.Author.Needs.{needs}
 use lib.IntN.{pos}
 use Rattle.machine.proofs.Equations.{mark-is}
-use Rattle.stack.proofs.Tests.{pushes}
+use Rattle.cells.proofs.Tests.{pushes}
 use Rattle.stack.proofs.stack_ops.mark.Statement.{statement}
 use Rattle.stack.proofs.stack_ops.mark.Tie as tie
 

@@ -3,7 +3,7 @@ use mathlib.Core.Path.{_∙_}
 use native.Mathlib.Omega.{arith}
 use borrow.Author.Needs.{needs}
 use Rattle.machine.proofs.Equations.{carries, faults, pop-is}
-use Rattle.stack.proofs.Tests.{needs-less, needs-met}
+use Rattle.cells.proofs.Tests.{needs-less, needs-met}
 use Rattle.stack.proofs.stack_ops.pop.Statement.{statement}
 use Rattle.stack.proofs.stack_ops.pop.Tie as tie
 

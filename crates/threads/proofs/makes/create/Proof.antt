@@ -11,7 +11,7 @@ use mir.Val.{toZ, ofZ}
 use mir.Facts.{toZ-ofZ, toZ-pos}
 use Rattle.machine.specs.Size.{stackAt}
 use Rattle.machine.proofs.Equations.{carries, create-is, faults}
-use Rattle.stack.proofs.Tests.{needs-less}
+use Rattle.cells.proofs.Tests.{needs-less}
 use Rattle.threads.specs.Entries.{entryOf}
 use Rattle.threads.proofs.Entries.{at-room, creates}
 use Rattle.threads.proofs.makes.create.Statement.{statement}

@@ -1,0 +1,11 @@
+// The cells of the store, and the one range check of the machine. Inner: the instructions use them on a running machine.
+mod cells;
+mod index;
+
+pub use cells::peek;
+pub use cells::poke;
+pub use cells::read;
+pub use cells::write;
+pub use index::Index;
+pub use index::checked;
+pub use index::offset;

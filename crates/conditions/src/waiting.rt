@@ -1,0 +1,120 @@
+// Conditions: threads wait for one, at the place 4 + 2 × size + its number, and are woken to the ready tail.
+ghost use Prim.Native.Nat.{_*_, _<_};
+ghost use lib.ListN.{length};
+ghost use Rattle.machine.specs.Instructions.{broadcast, newcond, signal, wait};
+ghost use Rattle.machine.specs.Tables.{atCondition, tablesOf, wakeAll, wakeFirst};
+ghost use Rattle.cells.specs.Contract.{Able, Acts, Does, Made};
+ghost use Rattle.tables.specs.Good.{Good, Left};
+use crate::numbers::ACondition;
+use crate::numbers::a_condition;
+use locks::AMutex;
+use locks::a_mutex;
+use locks::next_number;
+use locks::unlock_mutex;
+use machine::Condition;
+use machine::First;
+use machine::Registers;
+
+pub fn newcond(store: &mut [i32], size: usize, r: Registers) -> Registers
+    requires { ⌜ Able size r (length (now store)) ⌝ }
+    ensures { λ q. ⌜ Does size newcond (now (store .entry)) r (now (store .exit)) q ⌝ }
+{
+    let cells = r.cells;
+    if 127 < cells {
+        return r.stop(22);
+    }
+    let made = r.conditions;
+    cells::poke(store, size, r.thread, cells, next_number(made, 2 * size));
+    let q = r.advance().with_cells(cells + 1);
+    if made < 2 * size {
+        q.with_made(r.threads, r.mutexes, made + 1)
+    } else {
+        q
+    }
+}
+
+// The condition is looked at before the mutex, which must be the thread's own.
+pub fn wait(store: &[i32], tables: &mut [usize], size: usize, r: Registers) -> Registers
+    requires { ⌜ Able size r (length (now store)) ⌝ }
+    requires { ⌜ Good size (now tables) ⌝ }
+    requires { ⌜ Made size r ⌝ }
+    ensures { λ q. ⌜ Acts size wait (now (store .entry)) (now (tables .entry)) r (now (store .entry)) (now (tables .exit)) q ⌝ }
+{
+    let cells = r.cells;
+    if cells < 2 {
+        return r.stop(21);
+    }
+    let top = cells::peek(store, size, r.thread, cells - 1);
+    let ACondition::Made(c) = a_condition(top, r.conditions) else {
+        return r.stop(27);
+    };
+    let below = cells::peek(store, size, r.thread, cells - 2);
+    let AMutex::Made(m) = a_mutex(below, r.mutexes) else {
+        return r.stop(27);
+    };
+    let owner = tables::owner(tables, size, m);
+    if owner != r.thread {
+        return r.stop(28);
+    }
+    let popped = r.advance().with_cells(cells - 1);
+    let gone = threads::leave(tables, size, popped, 4 + 2 * size + c.0);
+    unlock_mutex(tables, size, m);
+    threads::next(tables, size, gone)
+}
+
+// The first who waits for a condition, if any, is ready.
+fn wake_first(tables: &mut [usize], size: usize, c: Condition)
+    requires { ⌜ Good size (now tables) ⌝ }
+    requires { ⌜ c .0 < 2 * size ⌝ }
+    ensures { λ _. ⌜ Left size (now (tables .exit)) (wakeFirst (tablesOf size (now (tables .entry))) (atCondition size (c .0))) ⌝ }
+{
+    let First::Waiter(_) = tables::dequeue(tables, size, 4 + 2 * size + c.0, tables::READY) else {
+        // Nobody waits, and the signal is not remembered.
+        return;
+    };
+}
+
+// All who wait for a condition are ready, in their order.
+fn wake_all(tables: &mut [usize], size: usize, c: Condition)
+    requires { ⌜ Good size (now tables) ⌝ }
+    requires { ⌜ c .0 < 2 * size ⌝ }
+    ensures { λ _. ⌜ Left size (now (tables .exit)) (wakeAll (tablesOf size (now (tables .entry))) (atCondition size (c .0))) ⌝ }
+{
+    tables::wake_all(tables, size, 4 + 2 * size + c.0);
+}
+
+pub fn signal(store: &[i32], tables: &mut [usize], size: usize, r: Registers) -> Registers
+    requires { ⌜ Able size r (length (now store)) ⌝ }
+    requires { ⌜ Good size (now tables) ⌝ }
+    requires { ⌜ Made size r ⌝ }
+    ensures { λ q. ⌜ Acts size signal (now (store .entry)) (now (tables .entry)) r (now (store .entry)) (now (tables .exit)) q ⌝ }
+{
+    let cells = r.cells;
+    if cells < 1 {
+        return r.stop(21);
+    }
+    let top = cells::peek(store, size, r.thread, cells - 1);
+    let ACondition::Made(c) = a_condition(top, r.conditions) else {
+        return r.stop(27);
+    };
+    wake_first(tables, size, c);
+    r.advance().with_cells(cells - 1)
+}
+
+pub fn broadcast(store: &[i32], tables: &mut [usize], size: usize, r: Registers) -> Registers
+    requires { ⌜ Able size r (length (now store)) ⌝ }
+    requires { ⌜ Good size (now tables) ⌝ }
+    requires { ⌜ Made size r ⌝ }
+    ensures { λ q. ⌜ Acts size broadcast (now (store .entry)) (now (tables .entry)) r (now (store .entry)) (now (tables .exit)) q ⌝ }
+{
+    let cells = r.cells;
+    if cells < 1 {
+        return r.stop(21);
+    }
+    let top = cells::peek(store, size, r.thread, cells - 1);
+    let ACondition::Made(c) = a_condition(top, r.conditions) else {
+        return r.stop(27);
+    };
+    wake_all(tables, size, c);
+    r.advance().with_cells(cells - 1)
+}

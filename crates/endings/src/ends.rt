@@ -1,0 +1,118 @@
+// A thread's end and its result, and who waits for them.
+ghost use Prim.Native.Nat.{_<_, _≤_};
+ghost use mathlib.Core.Path.{_≡_};
+ghost use lib.ListN.{length};
+ghost use Rattle.machine.specs.Instructions.{exit, finalize, join};
+ghost use Rattle.machine.specs.Tables.{atEnd};
+ghost use Rattle.cells.specs.Contract.{Able, Acts, Made};
+ghost use Rattle.tables.specs.Good.{Good};
+ghost use Rattle.endings.specs.Contract.{Changes, Ends};
+use machine::Registers;
+use machine::Thread;
+use threads::AThread;
+use threads::a_thread;
+use threads::block;
+use threads::next;
+
+// The place of a thread that has ended.
+const ENDED: usize = 1;
+
+// The place of those who wait for a thread's end.
+fn queue_of(size: usize, t: Thread) -> usize
+    requires { ⌜ size ≤ 32 ⌝ }
+    requires { ⌜ t .0 < size ⌝ }
+    ensures { λ p. ⌜ p ≡ atEnd size (t .0) ⌝ }
+{
+    4 + 4 * size + t.0
+}
+
+// The running thread ends with a result, and the next one runs.
+pub fn finish(
+    tables: &mut [usize],
+    values: &mut [i32],
+    size: usize,
+    r: Registers,
+    v: i32,
+) -> Registers
+    requires { ⌜ Good size (now tables) ⌝ }
+    requires { ⌜ length (now values) ≡ size ⌝ }
+    requires { ⌜ r .thread < size ⌝ }
+    ensures { λ q. ⌜ Ends size v (now (tables .entry)) (now (values .entry)) r (now (tables .exit)) (now (values .exit)) q ⌝ }
+{
+    let t = Thread(r.thread);
+    cells::write(values, r.thread, v);
+    tables::wake_all(tables, size, queue_of(size, t));
+    tables::send(tables, size, t, ENDED);
+    next(tables, size, r.with_state(r.state, size))
+}
+
+pub fn exit(
+    store: &[i32],
+    tables: &mut [usize],
+    values: &mut [i32],
+    size: usize,
+    r: Registers,
+) -> Registers
+    requires { ⌜ Able size r (length (now store)) ⌝ }
+    requires { ⌜ Good size (now tables) ⌝ }
+    requires { ⌜ length (now values) ≡ size ⌝ }
+    ensures { λ q. ⌜ Changes size exit (now (store .entry)) (now (tables .entry)) (now (values .entry)) r (now (store .entry)) (now (tables .exit)) (now (values .exit)) q ⌝ }
+{
+    let cells = r.cells;
+    if cells < 1 {
+        return r.stop(21);
+    }
+    let top = cells::peek(store, size, r.thread, cells - 1);
+    finish(tables, values, size, r.advance(), top)
+}
+
+pub fn join(store: &[i32], tables: &mut [usize], size: usize, r: Registers) -> Registers
+    requires { ⌜ Able size r (length (now store)) ⌝ }
+    requires { ⌜ Good size (now tables) ⌝ }
+    requires { ⌜ Made size r ⌝ }
+    ensures { λ q. ⌜ Acts size join (now (store .entry)) (now (tables .entry)) r (now (store .entry)) (now (tables .exit)) q ⌝ }
+{
+    let cells = r.cells;
+    if cells < 1 {
+        return r.stop(21);
+    }
+    let top = cells::peek(store, size, r.thread, cells - 1);
+    let AThread::Made(t) = a_thread(top, r.threads) else {
+        return r.stop(27);
+    };
+    let place = tables::place(tables, size, t);
+    if place == ENDED {
+        return r.advance();
+    }
+    block(tables, size, r.advance(), queue_of(size, t))
+}
+
+pub fn finalize(
+    store: &mut [i32],
+    tables: &[usize],
+    values: &[i32],
+    size: usize,
+    r: Registers,
+) -> Registers
+    requires { ⌜ Able size r (length (now store)) ⌝ }
+    requires { ⌜ Good size (now tables) ⌝ }
+    requires { ⌜ length (now values) ≡ size ⌝ }
+    requires { ⌜ Made size r ⌝ }
+    ensures { λ q. ⌜ Changes size finalize (now (store .entry)) (now (tables .entry)) (now (values .entry)) r (now (store .exit)) (now (tables .entry)) (now (values .entry)) q ⌝ }
+{
+    let cells = r.cells;
+    if cells < 1 {
+        return r.stop(21);
+    }
+    let top = cells::peek(store, size, r.thread, cells - 1);
+    let AThread::Made(t) = a_thread(top, r.threads) else {
+        return r.stop(27);
+    };
+    let place = tables::place(tables, size, t);
+    if place != ENDED {
+        return r.stop(29);
+    }
+    let v = cells::read(values, t.0);
+    cells::poke(store, size, r.thread, cells - 1, v);
+    r.advance()
+}
