@@ -9,7 +9,7 @@ use crate::numbers::ACondition;
 use crate::numbers::a_condition;
 use locks::AMutex;
 use locks::a_mutex;
-use locks::next_number;
+use locks::push_number;
 use locks::unlock_mutex;
 use machine::Condition;
 use machine::First;
@@ -19,13 +19,11 @@ pub fn newcond(store: &mut [i32], size: usize, r: Registers) -> Registers
     requires { ⌜ Able size r (length (now store)) ⌝ }
     ensures { λ q. ⌜ Does size newcond (now (store .entry)) r (now (store .exit)) q ⌝ }
 {
-    let cells = r.cells;
-    if 127 < cells {
+    if 127 < r.cells {
         return r.stop(22);
     }
     let made = r.conditions;
-    cells::poke(store, size, r.thread, cells, next_number(made, 2 * size));
-    let q = r.advance().with_cells(cells + 1);
+    let q = push_number(store, size, r, made);
     if made < 2 * size {
         q.with_made(r.threads, r.mutexes, made + 1)
     } else {

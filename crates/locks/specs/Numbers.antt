@@ -1,9 +1,15 @@
 -- The number of a mutex that a check let through, and the number of the next.
-use Prim.Native.Nat.{ℕ}
+use Prim.Native.Nat.{ℕ, _+_}
 use mathlib.Core.Bool.{cond}
+use mathlib.Core.List.{List}
+use mathlib.Core.Path.{_≡_}
 use lib.Dec.{ltb}
 use lib.IntN.{ℤ, pos}
+use lib.ListN.{set}
+use Rattle.machine.specs.Registers.{advanced, withCells}
+use Rattle.machine.specs.Size.{mutexLimit, stackAt}
 use Rattle.machine.specs.State.{minusOne}
+use Rattle.machine.specs.declared.registers.Registers.{Registers}
 use Rattle.cells.specs.declared.index.Index.{Index}
 use Rattle.cells.specs.declared.index.Index.the-variants.{In, Out}
 use Rattle.locks.specs.declared.numbers.AMutex.{AMutex}
@@ -16,3 +22,8 @@ mutexNumber mutex.Missing = Out
 -- "the next number, or −1 exactly if 64 were made"
 abbrev pub nextNumber : ℕ → ℕ → ℤ
 nextNumber made limit = cond (ltb made limit) (pos made) minusOne
+
+-- it is pushed, and PC goes on
+pub record Numbers (size made : ℕ) (store : List ℤ) (r : Registers) (store′ : List ℤ) (q : Registers) : Type 0 where
+  pub pushed : store′ ≡ set store (stackAt size (r .thread) (r .cells)) (nextNumber made (mutexLimit size))
+  pub onward : q ≡ withCells (advanced r) (r .cells + 1)

@@ -8,4 +8,4 @@ pub use mutexes::unlock;
 pub use mutexes::unlock_mutex;
 pub use numbers::AMutex;
 pub use numbers::a_mutex;
-pub use numbers::next_number;
+pub use numbers::push_number;

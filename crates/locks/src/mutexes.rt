@@ -7,7 +7,7 @@ ghost use Rattle.cells.specs.Contract.{Able, Acts, Does, Made};
 ghost use Rattle.tables.specs.Good.{Good, Left};
 use crate::numbers::AMutex;
 use crate::numbers::a_mutex;
-use crate::numbers::next_number;
+use crate::numbers::push_number;
 use machine::First;
 use machine::Mutex;
 use machine::Registers;
@@ -16,13 +16,11 @@ pub fn newmutex(store: &mut [i32], size: usize, r: Registers) -> Registers
     requires { ⌜ Able size r (length (now store)) ⌝ }
     ensures { λ q. ⌜ Does size newmutex (now (store .entry)) r (now (store .exit)) q ⌝ }
 {
-    let cells = r.cells;
-    if 127 < cells {
+    if 127 < r.cells {
         return r.stop(22);
     }
     let made = r.mutexes;
-    cells::poke(store, size, r.thread, cells, next_number(made, 2 * size));
-    let q = r.advance().with_cells(cells + 1);
+    let q = push_number(store, size, r, made);
     if made < 2 * size {
         q.with_made(r.threads, made + 1, r.conditions)
     } else {

@@ -1,10 +1,12 @@
 // The number of a mutex is made by the check that it is one of those made.
-ghost use Prim.Native.Nat.{_≤_};
+ghost use Prim.Native.Nat.{_<_, _≤_};
+ghost use lib.ListN.{length};
 ghost use mathlib.Core.Path.{_≡_};
-ghost use Rattle.cells.specs.Contract.{indexOf};
-ghost use Rattle.locks.specs.Numbers.{mutexNumber, nextNumber};
+ghost use Rattle.cells.specs.Contract.{Able, indexOf};
+ghost use Rattle.locks.specs.Numbers.{Numbers, mutexNumber, nextNumber};
 use cells::Index;
 use machine::Mutex;
+use machine::Registers;
 
 pub enum AMutex {
     Made(Mutex),
@@ -21,9 +23,20 @@ pub fn a_mutex(v: i32, mutexes: usize) -> AMutex
 }
 
 // The number of the next mutex or condition where `made` were made, or −1 where no more can be.
-pub fn next_number(made: usize, limit: usize) -> i32
+fn next_number(made: usize, limit: usize) -> i32
     requires { ⌜ limit ≤ 64 ⌝ }
     ensures { λ v. ⌜ v ≡ nextNumber made limit ⌝ }
 {
     if made < limit { made as i32 } else { -1 }
+}
+
+// Pushes the number of the next mutex or condition, and goes on. The caller has seen to the room.
+pub fn push_number(store: &mut [i32], size: usize, r: Registers, made: usize) -> Registers
+    requires { ⌜ Able size r (length (now store)) ⌝ }
+    requires { ⌜ r .cells < 128 ⌝ }
+    ensures { λ q. ⌜ Numbers size made (now (store .entry)) r (now (store .exit)) q ⌝ }
+{
+    let cells = r.cells;
+    cells::poke(store, size, r.thread, cells, next_number(made, 2 * size));
+    r.advance().with_cells(cells + 1)
 }

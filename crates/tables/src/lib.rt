@@ -1,4 +1,4 @@
-// The lent tables: places, saved registers, owners and the line of threads. Only this crate knows their layout.
+// The lent tables: places, saved registers, owners and the line of threads. Of the machine's crates only this one knows their layout.
 // Inner: the machine's instructions call these functions on tables that are in order.
 ghost use mathlib.Core.Path.{_≡_};
 ghost use Prim.Native.Nat.{_+_, _*_, _<_, _≤_};

@@ -2,9 +2,10 @@
 ghost use mathlib.Core.Path.{_≡_};
 ghost use lib.ListN.{length};
 ghost use Rattle.machine.specs.Instructions.{create};
-ghost use Rattle.machine.specs.State.{newStack};
+ghost use Rattle.machine.specs.State.{newCells, newFp, newStack};
+ghost use Rattle.machine.specs.Tables.{ready, saved, sent, tablesOf};
 ghost use Rattle.cells.specs.Contract.{Able, ActsIn, CellOf};
-ghost use Rattle.tables.specs.Good.{Good};
+ghost use Rattle.tables.specs.Good.{Good, Left};
 ghost use Rattle.threads.specs.Entries.{entryOf};
 use cells::Index;
 use machine::Registers;
@@ -18,6 +19,28 @@ fn new_stack(store: &mut [i32], size: usize, t: Thread, v: i32)
     cells::poke(store, size, t.0, 0, v);
     cells::poke(store, size, t.0, 1, -1);
     cells::poke(store, size, t.0, 2, -1);
+}
+
+// Makes the next thread: its stack, its saved registers, and its place at the ready tail.
+fn make_thread(
+    store: &mut [i32],
+    tables: &mut [usize],
+    size: usize,
+    made: usize,
+    entry: usize,
+    v: i32,
+) -> Thread
+    requires { ⌜ CellOf size made 2 (length (now store)) ⌝ }
+    requires { ⌜ Good size (now tables) ⌝ }
+    ensures { λ t. ⌜ t .0 ≡ made ⌝ }
+    ensures { λ _. ⌜ now (store .exit) ≡ newStack size (now (store .entry)) made v ⌝ }
+    ensures { λ _. ⌜ Left size (now (tables .exit)) (sent (saved (tablesOf size (now (tables .entry))) made entry newCells newFp) made ready) ⌝ }
+{
+    let t = Thread(made);
+    new_stack(store, size, t, v);
+    tables::save(tables, size, t, entry, 3, 2);
+    tables::send(tables, size, t, tables::READY);
+    t
 }
 
 // What create finds below the top: a thread's entry, with room for the thread or without, or no entry.
@@ -66,11 +89,8 @@ pub fn create(
         }
         Entry::At(entry) => {
             let top = cells::peek(store, size, r.thread, cells - 1);
-            let t = Thread(made);
-            new_stack(store, size, t, top);
-            cells::poke(store, size, r.thread, cells - 2, made as i32);
-            tables::save(tables, size, t, entry, 3, 2);
-            tables::send(tables, size, t, tables::READY);
+            let t = make_thread(store, tables, size, made, entry, top);
+            cells::poke(store, size, r.thread, cells - 2, t.0 as i32);
             r.advance()
                 .with_cells(cells - 1)
                 .with_made(made + 1, r.mutexes, r.conditions)

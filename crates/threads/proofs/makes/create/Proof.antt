@@ -67,32 +67,26 @@ sub-peek c = search needs
 peek-requires-2 : tie.Need-peek-requires-2
 peek-requires-2 c κs = search needs
 
-new-stack-requires : tie.Need-new-stack-requires
-new-stack-requires c κs = record { small = c .before .before .before .before .before .before .before .before .before .before .before .pre .0 .small; fits = c .before .before .before .before .before .before .before .before .before .before .before .pre .0 .fits; thread = room (c .before .before .before .before); cell = omega arith }
+make-thread-requires : tie.Need-make-thread-requires
+make-thread-requires c κs = (record { small = c .before .before .before .before .before .before .before .before .before .before .before .before .pre .0 .small; fits = c .before .before .before .before .before .before .before .before .before .before .before .before .pre .0 .fits; thread = room (c .before .before .before .before .before); cell = omega arith }, c .before .before .before .before .before .before .before .before .before .before .before .before .pre .1)
 
 cast-poke : tie.Need-cast-poke
-cast-poke c = omega (arith, room (c .before .before .before .before .before .before .before), c .before .before .before .before .before .before .before .before .before .before .before .before .before .before .pre .0 .small)
+cast-poke c = omega (arith, c .before .before .before .before .before .make-thread .ensures .0, room (c .before .before .before .before .before .before .before .before .before .before .before), c .before .before .before .before .before .before .before .before .before .before .before .before .before .before .before .before .before .before .pre .0 .small)
 
 poke-requires-2 : tie.Need-poke-requires-2
 poke-requires-2 c κs = search needs
 
-save-requires : tie.Need-save-requires
-save-requires c κs = (c .before .before .before .before .before .before .before .before .before .before .before .before .before .before .before .before .before .pre .1, room (c .before .before .before .before .before .before .before .before .before .before))
-
-send-requires : tie.Need-send-requires
-send-requires c κs = (c .before .before .before .save .ensures .good, room (c .before .before .before .before .before .before .before .before .before .before .before .before .before .before))
-
 advance-requires-2 : tie.Need-advance-requires-2
-advance-requires-2 c κs = omega (arith, c .before .before .before .before .before .before .before .before .before .before .before .before .before .before .before .before .before .before .before .before .before .before .before .before .pre .0 .pc)
+advance-requires-2 c κs = search needs
 
 sub-with-cells-2 : tie.Need-sub-with-cells-2
-sub-with-cells-2 c = omega (arith, c .before .before .before .before .before .before .before .before .before .before .before .before .before .before .before .before .before .before .before .before .before .before .before .if1 .left)
+sub-with-cells-2 c = omega (arith, c .before .before .before .before .before .before .before .before .before .before .before .before .before .before .before .before .before .before .before .if1 .left)
 
 with-cells-requires-2 : tie.Need-with-cells-requires-2
 with-cells-requires-2 c κs = search needs
 
 add-with-made : tie.Need-add-with-made
-add-with-made c = omega (arith, room (c .before .before .before .before .before .before .before .before .before .before .before .before .before .before .before .before .before .before .before), c .before .before .before .before .before .before .before .before .before .before .before .before .before .before .before .before .before .before .before .before .before .before .before .before .before .before .pre .0 .small)
+add-with-made c = omega (arith, room (c .before .before .before .before .before .before .before .before .before .before .before .before .before .before .before), c .before .before .before .before .before .before .before .before .before .before .before .before .before .before .before .before .before .before .before .before .before .before .pre .0 .small)
 
 with-made-requires : tie.Need-with-made-requires
 with-made-requires c κs = search needs
@@ -114,15 +108,26 @@ returns-3 c values =
     (carries _ _ _ _ _ (creates _ _ _ _ (omega arith) (below (c .before .before .before .before .before .before .before) ∙ c .before .before .before .before .before .enum-told2 .given .1)))
 
 same-length-3 : tie.Need-same-length-3
-same-length-3 c = c .before .before .before .before .before .before .before .before .before .before .before .before .poke2 .kept .0 ∙ c .before .before .before .before .before .before .before .before .before .before .before .before .before .before .before .new-stack .kept .0
+same-length-3 c = search needs
 
 same-length-4 : tie.Need-same-length-4
 same-length-4 c = search needs
 
 returns-4 : tie.Need-returns-4
 returns-4 c values =
-    rw (c .with-made .ensures, c .before .with-cells2 .ensures, c .before .before .advance2 .ensures, c .before .before .before .before .before .send .ensures .is, c .before .before .before .before .before .before .before .before .before .save .ensures .is, c .before .before .before .before .before .before .before .before .before .before .before .before .poke2 .ensures, c .before .before .before .before .before .before .before .before .before .before .before .before .before .before .before .new-stack .ensures, toZ-ofZ (sfits-of {w = w32} {z = c .before .before .before .before .before .before .before .before .before .before .before .before .before .before .before .before .before .peek2 .result} (c .before .before .before .before .before .before .before .before .before .before .before .before .before .before .before .before .before .peek2 .ok)), c .before .before .before .before .before .before .before .before .before .before .before .before .before .before .before .before .before .peek2 .ensures, toZ-pos w32 {n = c .before .before .before .before .before .before .before .before .before .before .before .before .before .before .before .before .before .before .before .before .before .before .before .before .before .before .before .args .r .threads} (omega (arith, room (c .before .before .before .before .before .before .before .before .before .before .before .before .before .before .before .before .before .before .before .before), c .before .before .before .before .before .before .before .before .before .before .before .before .before .before .before .before .before .before .before .before .before .before .before .before .before .before .before .pre .0 .small)))
-    (carries _ _ _ _ _ (creates _ _ _ _ (omega (arith, c .before .before .before .before .before .before .before .before .before .before .before .before .before .before .before .before .before .before .before .before .before .before .before .before .before .if1 .left)) (below (c .before .before .before .before .before .before .before .before .before .before .before .before .before .before .before .before .before .before .before .before .before .before) ∙ c .before .before .before .before .before .before .before .before .before .before .before .before .before .before .before .before .before .before .before .before .entry .given .1)))
+    rw (
+      c .with-made .ensures,
+      c .before .with-cells2 .ensures,
+      c .before .before .advance2 .ensures,
+      c .before .before .before .before .poke2 .ensures,
+      c .before .before .before .before .before .before .before .before .before .before .make-thread .ensures .1 .1 .is,
+      c .before .before .before .before .before .before .before .before .before .before .make-thread .ensures .1 .0,
+      c .before .before .before .before .before .before .before .before .before .before .make-thread .ensures .0,
+      toZ-ofZ (sfits-of {w = w32} {z = c .before .before .before .before .before .before .before .before .before .before .before .before .before .peek2 .result} (c .before .before .before .before .before .before .before .before .before .before .before .before .before .peek2 .ok)),
+      c .before .before .before .before .before .before .before .before .before .before .before .before .before .peek2 .ensures,
+      toZ-pos w32 {n = c .before .before .before .before .before .before .before .before .before .before .before .before .before .before .before .before .before .before .before .before .before .before .before .args .r .threads} (omega (arith, room (c .before .before .before .before .before .before .before .before .before .before .before .before .before .before .before .before), c .before .before .before .before .before .before .before .before .before .before .before .before .before .before .before .before .before .before .before .before .before .before .before .pre .0 .small)),
+    )
+    (carries _ _ _ _ _ (creates _ _ _ _ (omega (arith, c .before .before .before .before .before .before .before .before .before .before .before .before .before .before .before .before .before .before .before .before .before .if1 .left)) (below (c .before .before .before .before .before .before .before .before .before .before .before .before .before .before .before .before .before .before) ∙ c .before .before .before .before .before .before .before .before .before .before .before .before .before .before .before .before .entry .given .1)))
 
 pub create-spec : {M : Type 1} → statement M
 create-spec =
@@ -142,11 +147,9 @@ create-spec =
     enum-known-entry
     sub-peek
     peek-requires-2
-    new-stack-requires
+    make-thread-requires
     cast-poke
     poke-requires-2
-    save-requires
-    send-requires
     advance-requires-2
     sub-with-cells-2
     with-cells-requires-2
