@@ -1,13 +1,14 @@
 -- Laws of the lists in the place of structs and enums. Assumes nothing.
-use Prim.Native.Nat.{ℕ, suc}
+use Prim.Native.Nat.{ℕ}
 use mathlib.Core.List.{List, [], _∷_}
-use mathlib.Core.Path.{_≡_, refl, sym, ap, _∙_}
+use mathlib.Core.Path.{_≡_, refl}
+use native.Mathlib.Omega.{arith}
 use lib.IntN.{ℤ}
 use lib.ListN.{length}
 use Rattle.cma.specs.Outcome.{Gives}
 use Rattle.cma.specs.declared.results.Outcome.{Outcome}
 use Rattle.machine.specs.Calls.{Called}
-use Rattle.leprahoon.specs.Lists.{Reports, answerList, listOf}
+use Rattle.leprahoon.specs.Lists.{Reports, answerList, listOf, registersOf}
 
 -- what a call gives, put into lists
 pub reported : {called : Called} {o : Outcome} {store : List ℤ} {tables : List ℕ} {values : List ℤ} {registers report : List ℕ} →
@@ -21,3 +22,18 @@ reported g e f =
       in-registers = rw (← g .registers) e;
       reported = rw (← g .answered, ← g .counted) f;
     }
+
+-- ten numbers are the list of the registers that they are: registers that come back as given are the caller's own list
+pub back-and-there : (l : List ℕ) → length l ≡ 10 → listOf (registersOf l) ≡ l
+back-and-there [] k = absurd (omega (arith, k))
+back-and-there (a ∷ []) k = absurd (omega (arith, k))
+back-and-there (a ∷ b ∷ []) k = absurd (omega (arith, k))
+back-and-there (a ∷ b ∷ c ∷ []) k = absurd (omega (arith, k))
+back-and-there (a ∷ b ∷ c ∷ d ∷ []) k = absurd (omega (arith, k))
+back-and-there (a ∷ b ∷ c ∷ d ∷ e ∷ []) k = absurd (omega (arith, k))
+back-and-there (a ∷ b ∷ c ∷ d ∷ e ∷ f ∷ []) k = absurd (omega (arith, k))
+back-and-there (a ∷ b ∷ c ∷ d ∷ e ∷ f ∷ g ∷ []) k = absurd (omega (arith, k))
+back-and-there (a ∷ b ∷ c ∷ d ∷ e ∷ f ∷ g ∷ h ∷ []) k = absurd (omega (arith, k))
+back-and-there (a ∷ b ∷ c ∷ d ∷ e ∷ f ∷ g ∷ h ∷ i ∷ []) k = absurd (omega (arith, k))
+back-and-there (a ∷ b ∷ c ∷ d ∷ e ∷ f ∷ g ∷ h ∷ i ∷ j ∷ []) k = refl
+back-and-there (a ∷ b ∷ c ∷ d ∷ e ∷ f ∷ g ∷ h ∷ i ∷ j ∷ x ∷ rest) k = absurd (omega (arith, k))
