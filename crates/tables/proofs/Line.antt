@@ -4,8 +4,8 @@ use mathlib.Core.Path.{_≡_, refl, sym, ap, _∙_}
 use mathlib.Core.Bool.{true, false}
 use mathlib.Core.List.{List, [], _∷_, _++_}
 use mathlib.Core.Logic.{_≢_}
-use native.Mathlib.Numerals.{add-one}
 use native.Mathlib.Omega.{arith}
+use lib.Dec.{eqb}
 use lib.ListN.{length, getD, set, take, drop, drop-of-length-le, length-append, length-drop, length-set, take-append-drop, List·getD-append}
 use lib.Seq.{drop-append-le, drop-at, drop-cons, drop-set-lt, getD-drop, length-take-le, take-append-le, take-set-lt}
 use borrow.Author.Tests.{eq-eqb, ne-eqb, lt-ltb, le-ltb}
@@ -162,37 +162,43 @@ sent-left size l l′ t p g h e =
 
 -- ---- the search along the line
 
+-- the search from entry k of the line on
+abbrev pub searched : ℕ → List ℕ → ℕ → ℕ → First
+searched size l place k = firstOf (keep (isAt (tablesOf size l) place) (drop (6 * size + k) l))
+
 module _ (size : ℕ) (l : List ℕ) (g : Good size l) where
   line-is : tablesOf size l .line ≡ drop (6 * size) l
   unfolding tablesOf
   line-is = refl
 
-  pub member : (i : ℕ) → 6 * size ≤ i → i < length l → getD l i 0 < size
-  member i low high =
-      let at : 6 * size + (i - 6 * size) ≡ i = omega arith in
-      let same : getD (drop (6 * size) l) (i - 6 * size) 0 ≡ getD l i 0 = getD-drop (6 * size) l (i - 6 * size) 0 ∙ ap (λ (k : ℕ). getD l k 0) at in
-      let there : 0 < count (getD (drop (6 * size) l) (i - 6 * size) 0) (drop (6 * size) l) = occurs (drop (6 * size) l) (i - 6 * size) (omega (arith, length-drop (6 * size) l)) in
-      less-or-not (getD l i 0) size (λ k. k)
-      (λ k. absurd (omega (arith, rw same at there, rw line-is at (g .line .no-other (getD l i 0) k))))
+  -- entry k of the line is a thread
+  pub member : (k i : ℕ) → k < size → i ≡ 6 * size + k → getD l i 0 < size
+  member k i below e =
+      let same : getD (drop (6 * size) l) k 0 ≡ getD l i 0 = getD-drop (6 * size) l k 0 ∙ ap (λ (j : ℕ). getD l j 0) (sym e) in
+      let there : 0 < count (getD (drop (6 * size) l) k 0) (drop (6 * size) l) = occurs (drop (6 * size) l) k (omega (arith, g .long, length-drop (6 * size) l)) in
+      less-or-not (getD l i 0) size (λ h. h)
+      (λ h. absurd (omega (arith, rw same at there, rw line-is at (g .line .no-other (getD l i 0) h))))
 
-  -- the search from a place of the slice on
-  abbrev pub searched : ℕ → ℕ → First
-  searched place i = firstOf (keep (isAt (tablesOf size l) place) (drop i l))
-
-  pub search-start : (place : ℕ) → first (tablesOf size l) place ≡ searched place (6 * size)
+  pub search-start : (place : ℕ) → first (tablesOf size l) place ≡ searched size l place 0
   unfolding first queue
-  search-start place = rw line-is
+  search-start place = let all : 6 * size + 0 ≡ 6 * size = omega arith in rw (all, line-is)
 
-  pub search-found : (place i : ℕ) → 6 * size ≤ i → i < length l → getD l (getD l i 0) 0 ≡ place → searched place i ≡ Waiter (record { 0 = getD l i 0 })
-  search-found place i low high e =
-      rw (drop-cons l i 0 high, keep-in (isAt (tablesOf size l) place) (getD l i 0) (drop (suc i) l) (eq-eqb _ _ (read-place size l (getD l i 0) (member i low high) ∙ e)))
+  module _ (place k i : ℕ) (below : k < size) (e : i ≡ 6 * size + k) where
+    -- whether entry k is at a place
+    at-entry : isAt (tablesOf size l) place (getD l i 0) ≡ eqb (getD l (getD l i 0) 0) place
+    at-entry = ap (λ (p : ℕ). eqb p place) (read-place size l (getD l i 0) (member k i below e))
 
-  pub search-on : (place i : ℕ) → 6 * size ≤ i → i < length l → getD l (getD l i 0) 0 ≢ place → searched place i ≡ searched place (i + 1)
-  search-on place i low high e =
-      rw (add-one, drop-cons l i 0 high, keep-out (isAt (tablesOf size l) place) (getD l i 0) (drop (suc i) l) (ne-eqb _ _ (λ k. e (sym (read-place size l (getD l i 0) (member i low high)) ∙ k))))
+    pub search-found : getD l (getD l i 0) 0 ≡ place → searched size l place k ≡ Waiter (record { 0 = getD l i 0 })
+    search-found h =
+        rw (← e, drop-cons l i 0 (omega (arith, g .long)), keep-in (isAt (tablesOf size l) place) (getD l i 0) (drop (suc i) l) (at-entry ∙ eq-eqb _ _ h))
 
-  pub search-end : (place i : ℕ) → length l ≤ i → searched place i ≡ Nobody
-  search-end place i h = rw (drop-of-length-le l h, keep-nil (isAt (tablesOf size l) place))
+    pub search-on : getD l (getD l i 0) 0 ≢ place → searched size l place k ≡ searched size l place (k + 1)
+    search-on h =
+        let next : 6 * size + (k + 1) ≡ suc i = omega arith in
+        rw (next, ← e, drop-cons l i 0 (omega (arith, g .long)), keep-out (isAt (tablesOf size l) place) (getD l i 0) (drop (suc i) l) (at-entry ∙ ne-eqb _ _ h))
+
+  pub search-end : (place k : ℕ) → size ≤ k → searched size l place k ≡ Nobody
+  search-end place k h = rw (drop-of-length-le l {i = 6 * size + k} (omega (arith, g .long)), keep-nil (isAt (tablesOf size l) place))
 
   -- who is found is a thread
   pub found-real : (place : ℕ) (t : Thread) → first (tablesOf size l) place ≡ Waiter t → t .0 < size

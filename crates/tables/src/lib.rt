@@ -121,18 +121,28 @@ pub fn send(tables: &mut [usize], size: usize, t: Thread, place: usize)
     to_end(tables, 6 * size, at);
 }
 
+// Where the line has its entry `k`: the threads stand in the order of their arrival.
+fn in_line(size: usize, k: usize) -> usize
+    requires { ⌜ size ≤ 32 ⌝ }
+    requires { ⌜ k < size ⌝ }
+    ensures { λ i. ⌜ i ≡ 6 * size + k ⌝ }
+{
+    6 * size + k
+}
+
 // The first of the line that is at a place.
 fn find(tables: &[usize], size: usize, place: usize) -> First
     requires { ⌜ Good size (now tables) ⌝ }
     ensures { λ r. ⌜ r ≡ first (tablesOf size (now (tables .entry))) place ⌝ }
 {
-    let mut i = 6 * size;
-    while i < tables.len() {
+    let mut k = 0;
+    while k < size {
+        let i = in_line(size, k);
         let t = tables[i];
         if tables[t] == place {
             return First::Waiter(Thread(t));
         }
-        i += 1;
+        k += 1;
     }
     First::Nobody
 }
