@@ -4,7 +4,7 @@ use mathlib.Core.Path.{_≡_, refl, ap, sym, _∙_}
 use mathlib.Core.Bool.{Bool, true, false, cond}
 use native.Mathlib.Omega.{arith}
 use lib.Dec.{ltb}
-use lib.IntN.{ℤ}
+use lib.IntN.{ℤ, pos}
 use borrow.Author.Tests.{ltb-true}
 use Rattle.machine.specs.Execution.{Outcome, combined, created, creating, done, exec, fault, within}
 use Rattle.machine.specs.Instructions as instr
@@ -25,33 +25,33 @@ outcome Full f o = o
 outcome Wrong f o = fault 25
 
 -- what the code finds by its two tests
-pub found : (z : ℤ) (n made size : ℕ) (i : Index) (room : Bool) → indexOf z n ≡ i → ltb made size ≡ room → entryAt i room ≡ entryOf z n made size
-found z n made size i room e h = λ k. entryAt (sym e k) (sym h k)
+pub found : (z : ℤ) (n made size : ℕ) (i j : Index) → indexOf z n ≡ i → indexOf (pos made) size ≡ j → entryAt i j ≡ entryOf z n made size
+found z n made size i j e h = λ k. entryAt (sym e k) (sym h k)
 
 -- an entry is found only with room
 pub at-room : (z : ℤ) (n made size a : ℕ) → entryOf z n made size ≡ At a → made < size
-at-room z n made size a e = by-test (indexOf z n) (ltb made size) refl e
+at-room z n made size a e = by-room (ltb made size) refl (indexOf z n) e
   where
-    by-test : (i : Index) (room : Bool) → ltb made size ≡ room → entryAt i room ≡ At a → made < size
-    by-test i true h k = ltb-true made size h
-    by-test (In b) false h k = absurd (let w : _≡_ {A = ℕ} 0 1 = cc in omega arith)
-    by-test Out false h k = absurd (let w : _≡_ {A = ℕ} 0 1 = cc in omega arith)
+    by-room : (room : Bool) → ltb made size ≡ room → (i : Index) → entryAt i (cond room (In made) Out) ≡ At a → made < size
+    by-room true h i k = ltb-true made size h
+    by-room false h (In b) k = absurd (let w : _≡_ {A = ℕ} 0 1 = cc in omega arith)
+    by-room false h Out k = absurd (let w : _≡_ {A = ℕ} 0 1 = cc in omega arith)
 
 -- the tests' outcome, by what was found
 by-tests : (z : ℤ) (n made size : ℕ) (f : ℕ → Outcome) (o : Outcome) (e : Entry) → entryOf z n made size ≡ e → within z n 25 (λ a. cond (ltb made size) (f a) o) ≡ outcome e f o
 by-tests z n made size f o e h = by-index (indexOf z n) refl ∙ ap (λ (x : Entry). outcome x f o) h
   where
-    split : (room : Bool) (a : ℕ) → cond room (f a) o ≡ outcome (entryAt (In a) room) f o
+    split : (room : Bool) (a : ℕ) → cond room (f a) o ≡ outcome (entryAt (In a) (cond room (In made) Out)) f o
     split true a = refl
     split false a = refl
 
     by-index : (i : Index) → indexOf z n ≡ i → within z n 25 (λ a. cond (ltb made size) (f a) o) ≡ outcome (entryOf z n made size) f o
     by-index (In a) k =
         within-in z n 25 (λ b. cond (ltb made size) (f b) o) a k ∙ split (ltb made size) a
-        ∙ ap (λ (i : Index). outcome (entryAt i (ltb made size)) f o) (sym k)
+        ∙ ap (λ (i : Index). outcome (entryAt i (indexOf (pos made) size)) f o) (sym k)
     by-index Out k =
         within-out z n 25 (λ b. cond (ltb made size) (f b) o) k
-        ∙ ap (λ (i : Index). outcome (entryAt i (ltb made size)) f o) (sym k)
+        ∙ ap (λ (i : Index). outcome (entryAt i (indexOf (pos made) size)) f o) (sym k)
 
 -- create with its two cells, by what was found
 pub creates : (size n : ℕ) (s : State) (e : Entry) → 2 ≤ s .regs .cells → entryOf (below size s) n (s .regs .threads) size ≡ e →

@@ -1,10 +1,11 @@
 // A new thread.
 ghost use mathlib.Core.Path.{_≡_};
+ghost use lib.IntN.{pos};
 ghost use lib.ListN.{length};
 ghost use Rattle.machine.specs.Instructions.{create};
 ghost use Rattle.machine.specs.State.{newCells, newFp, newStack};
 ghost use Rattle.machine.specs.Tables.{ready, saved, sent, tablesOf};
-ghost use Rattle.cells.specs.Contract.{Able, ActsIn, CellOf};
+ghost use Rattle.cells.specs.Contract.{Able, ActsIn, CellOf, indexOf};
 ghost use Rattle.tables.specs.Good.{Good, Left};
 ghost use Rattle.threads.specs.Entries.{entryOf};
 use cells::Index;
@@ -50,18 +51,30 @@ pub enum Entry {
     Wrong,
 }
 
+// The number of the next thread, if there is room for one.
+fn next_number(made: usize, size: usize) -> Index
+    ensures { λ r. ⌜ r ≡ indexOf (pos made) size ⌝ }
+{
+    if made < size {
+        Index::In(made)
+    } else {
+        Index::Out
+    }
+}
+
 // The entry is tested before the room.
 fn entry_of(v: i32, n: usize, made: usize, size: usize) -> Entry
     ensures { λ e. ⌜ e ≡ entryOf v n made size ⌝ }
 {
-    let Index::In(at) = cells::checked(v, n) else {
+    let target = cells::checked(v, n);
+    let next = next_number(made, size);
+    let Index::In(at) = target else {
         return Entry::Wrong;
     };
-    if made < size {
-        Entry::At(at)
-    } else {
-        Entry::Full
-    }
+    let Index::In(_number) = next else {
+        return Entry::Full;
+    };
+    Entry::At(at)
 }
 
 pub fn create(

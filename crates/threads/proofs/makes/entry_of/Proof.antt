@@ -1,30 +1,49 @@
 -- `threads::makes::entry_of` meets its contract. Assumes nothing.
 use borrow.Author.Needs.{needs}
-use mathlib.Core.Path.{refl, sym, _∙_}
-use borrow.Author.Tests.{le-ltb, lt-ltb}
+use mathlib.Core.Path.{_≡_, refl, sym, _∙_}
 use mir.Facts.{toZ-ofZ}
+use Rattle.cells.specs.declared.index.Index.{Index}
+use Rattle.threads.specs.Entries.{entryAt, entryOf}
 use Rattle.threads.proofs.Entries.{found}
 use Rattle.threads.proofs.makes.entry_of.Statement.{statement}
 use Rattle.threads.proofs.makes.entry_of.Tie as tie
 
+-- what is found, by the answers of the two tests
+entry : (c : tie.After-next-number) (i j : Index) → c .before .checked .result ≡ i → c .next-number .result ≡ j →
+    entryAt i j ≡ entryOf (c .before .before .args .v) (c .before .before .args .n) (c .before .before .args .made) (c .before .before .args .size)
+entry c i j e h =
+    found (c .before .before .args .v) (c .before .before .args .n) (c .before .before .args .made) (c .before .before .args .size) i j
+    (sym (rw (toZ-ofZ (c .before .before .fits .v)) at (c .before .checked .ensures)) ∙ e)
+    (sym (c .next-number .ensures) ∙ h)
+
 checked-requires : tie.Need-checked-requires
 checked-requires c κs = search needs
 
-enum-known-at : tie.Need-enum-known-at
-enum-known-at c = search needs
+next-number-requires : tie.Need-next-number-requires
+next-number-requires c κs = search needs
+
+enum-known-target : tie.Need-enum-known-target
+enum-known-target c = search needs
 
 enum-told : tie.Need-enum-told
 enum-told c = search needs
 
 returns : tie.Need-returns
-returns c = found (c .before .before .before .args .v) (c .before .before .before .args .n) (c .before .before .before .args .made) (c .before .before .before .args .size) _ _ (sym (rw (toZ-ofZ (c .before .before .before .fits .v)) at (c .before .before .checked .ensures)) ∙ c .enum-told .given .1) refl
+returns c = entry (c .before .before) _ _ (c .enum-told .given .1) refl
+
+enum-known-next : tie.Need-enum-known-next
+enum-known-next c = search needs
+
+enum-told-2 : tie.Need-enum-told-2
+enum-told-2 c = search needs
 
 returns-2 : tie.Need-returns-2
-returns-2 c = found (c .before .before .before .before .before .args .v) (c .before .before .before .before .before .args .n) (c .before .before .before .before .before .args .made) (c .before .before .before .before .before .args .size) _ _ (sym (rw (toZ-ofZ (c .before .before .before .before .before .fits .v)) at (c .before .before .before .before .checked .ensures)) ∙ c .before .before .at .given .1) (lt-ltb _ _ (c .if1 .taken))
+returns-2 c = entry (c .before .before .before .before .before) _ _ (c .before .before .before .target .given .1) (c .enum-told2 .given .1)
 
 returns-3 : tie.Need-returns-3
-returns-3 c = found (c .before .before .before .before .before .args .v) (c .before .before .before .before .before .args .n) (c .before .before .before .before .before .args .made) (c .before .before .before .before .before .args .size) _ _ (sym (rw (toZ-ofZ (c .before .before .before .before .before .fits .v)) at (c .before .before .before .before .checked .ensures)) ∙ c .before .before .at .given .1) (le-ltb _ _ (c .if1 .left))
+returns-3 c = entry (c .before .before .before .before .before .before) _ _ (c .before .before .before .before .target .given .1) (c .before .next .given .1)
 
 pub entry-of-spec : {M : Type 1} → statement M
 entry-of-spec =
-    tie.close (tie.spec checked-requires enum-known-at enum-told returns returns-2 returns-3)
+    tie.close
+    (tie.spec checked-requires next-number-requires enum-known-target enum-told returns enum-known-next enum-told-2 returns-2 returns-3)
