@@ -1,7 +1,9 @@
 // Conditions: threads wait for one, at the place 4 + 2 × size + its number, and are woken to the ready tail.
-ghost use Prim.Native.Nat.{_*_, _<_};
+ghost use Prim.Native.Nat.{_*_, _-_, _<_, _≤_};
+ghost use mathlib.Core.Path.{_≡_};
 ghost use lib.ListN.{length};
 ghost use Rattle.machine.specs.Instructions.{broadcast, newcond, signal, wait};
+ghost use Rattle.machine.specs.Registers.{advanced, withCells};
 ghost use Rattle.machine.specs.Tables.{atCondition, tablesOf, wakeAll, wakeFirst};
 ghost use Rattle.cells.specs.Contract.{Able, Acts, Does, Made};
 ghost use Rattle.tables.specs.Good.{Good, Left};
@@ -31,6 +33,16 @@ pub fn newcond(store: &mut [i32], size: usize, r: Registers) -> Registers
     }
 }
 
+// What a waiter goes on with when it is woken: the instruction after wait, the card's own lock, and the mutex on top.
+fn at_its_lock(r: Registers, cells: usize) -> Registers
+    requires { ⌜ r .pc < 4096 ⌝ }
+    requires { ⌜ 1 ≤ cells ⌝ }
+    ensures { λ q. ⌜ q ≡ withCells (advanced r) (cells - 1) ⌝ }
+{
+    let pc = r.pc;
+    r.with_pc(pc + 1).with_cells(cells - 1)
+}
+
 // The condition is looked at before the mutex, which must be the thread's own.
 pub fn wait(store: &[i32], tables: &mut [usize], size: usize, r: Registers) -> Registers
     requires { ⌜ Able size r (length (now store)) ⌝ }
@@ -54,7 +66,7 @@ pub fn wait(store: &[i32], tables: &mut [usize], size: usize, r: Registers) -> R
     if owner != r.thread {
         return r.stop(28);
     }
-    let popped = r.advance().with_cells(cells - 1);
+    let popped = at_its_lock(r, cells);
     let gone = threads::leave(tables, size, popped, 4 + 2 * size + c.0);
     unlock_mutex(tables, size, m);
     threads::next(tables, size, gone)

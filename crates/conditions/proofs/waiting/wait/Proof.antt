@@ -101,29 +101,23 @@ returns-4 c n values =
     rw (c .stop4 .ensures)
     (faults _ n _ _ 28 (wait-is _ n _ ∙ needs-met 2 _ _ (omega (arith, c .before .before .before .before .before .before .before .before .before .before .before .before .before .before .before .if1 .left)) ∙ within-in _ _ _ _ _ (made (c .before .before .before .before .before .before .before .before .before .before .before)) ∙ within-in _ _ _ _ _ (mutex (c .before .before .before .before .before .before)) ∙ owns-not _ _ _ _ _ (λ e. c .before .if2 .taken (c .before .before .before .owner .ensures ∙ e))))
 
-advance-requires : tie.Need-advance-requires
-advance-requires c κs = search needs
-
-sub-with-cells : tie.Need-sub-with-cells
-sub-with-cells c = omega (arith, c .before .before .before .before .before .before .before .before .before .before .before .before .before .before .before .if1 .left)
-
-with-cells-requires : tie.Need-with-cells-requires
-with-cells-requires c κs = search needs
+at-its-lock-requires : tie.Need-at-its-lock-requires
+at-its-lock-requires c κs = (c .before .before .before .before .before .before .before .before .before .before .before .before .before .before .before .before .pre .0 .pc, omega (arith, c .before .before .before .before .before .before .before .before .before .before .before .before .before .before .if1 .left))
 
 mul-leave : tie.Need-mul-leave
-mul-leave c = omega (arith, c .before .before .before .before .before .before .before .before .before .before .before .before .before .before .before .before .before .before .before .pre .0 .small)
+mul-leave c = omega (arith, c .before .before .before .before .before .before .before .before .before .before .before .before .before .before .before .before .before .before .pre .0 .small)
 
 add-leave : tie.Need-add-leave
-add-leave c = omega (arith, c .before .before .before .before .before .before .before .before .before .before .before .before .before .before .before .before .before .before .before .pre .0 .small)
+add-leave c = omega (arith, c .before .before .before .before .before .before .before .before .before .before .before .before .before .before .before .before .before .before .pre .0 .small)
 
 add-leave-2 : tie.Need-add-leave-2
-add-leave-2 c = omega (arith, below (c .before .before .before .before .before .before .before .before .before .before .before .before .before .before), c .before .before .before .before .before .before .before .before .before .before .before .before .before .before .before .before .before .before .before .before .pre .1 .1 .conditions, c .before .before .before .before .before .before .before .before .before .before .before .before .before .before .before .before .before .before .before .before .pre .0 .small)
+add-leave-2 c = omega (arith, below (c .before .before .before .before .before .before .before .before .before .before .before .before .before), c .before .before .before .before .before .before .before .before .before .before .before .before .before .before .before .before .before .before .before .pre .1 .1 .conditions, c .before .before .before .before .before .before .before .before .before .before .before .before .before .before .before .before .before .before .before .pre .0 .small)
 
 leave-requires : tie.Need-leave-requires
-leave-requires c κs = rw (c .before .before .with-cells .ensures, c .before .before .before .advance .ensures) (c .before .before .before .before .before .before .before .before .before .before .before .before .before .before .before .before .before .before .before .before .pre .1 .0, c .before .before .before .before .before .before .before .before .before .before .before .before .before .before .before .before .before .before .before .before .pre .0 .thread)
+leave-requires c κs = rw (c .before .before .at-its-lock .ensures) (c .before .before .before .before .before .before .before .before .before .before .before .before .before .before .before .before .before .before .before .pre .1 .0, c .before .before .before .before .before .before .before .before .before .before .before .before .before .before .before .before .before .before .before .pre .0 .thread)
 
 unlock-mutex-requires : tie.Need-unlock-mutex-requires
-unlock-mutex-requires c κs = (c .before .before .before .leave .ensures .good, omega (arith, mutex-below (c .before .before .before .before .before .before .before .before .before .before .before .before .before), c .before .before .before .before .before .before .before .before .before .before .before .before .before .before .before .before .before .before .before .before .before .before .before .before .pre .1 .1 .mutexes))
+unlock-mutex-requires c κs = (c .before .before .before .leave .ensures .good, omega (arith, mutex-below (c .before .before .before .before .before .before .before .before .before .before .before .before), c .before .before .before .before .before .before .before .before .before .before .before .before .before .before .before .before .before .before .before .before .before .before .before .pre .1 .1 .mutexes))
 
 next-requires : tie.Need-next-requires
 next-requires c κs = search needs
@@ -133,10 +127,11 @@ same-length-2 c = search needs
 
 returns-5 : tie.Need-returns-5
 returns-5 c n values =
-    let gone = rw (c .before .before .before .before .before .before .before .before .before .before .before .before .before .with-cells .ensures, c .before .before .before .before .before .before .before .before .before .before .before .before .before .before .advance .ensures) at (c .before .before .before .before .before .before .before .before .before .before .leave .ensures .is (now (c .before .before .before .before .before .before .before .before .before .before .before .before .before .before .before .before .before .before .before .before .before .before .before .before .before .before .before .before .before .before .before .args .store)) values) in
-    c .before .before .next .ensures .is (now (c .before .before .before .before .before .before .before .before .before .before .before .before .before .before .before .before .before .before .before .before .before .before .before .before .before .before .before .before .before .before .before .args .store)) values
+    let store = now (c .before .before .before .before .before .before .before .before .before .before .before .before .before .before .before .before .before .before .before .before .before .before .before .before .before .before .before .before .before .before .args .store) in
+    let gone = rw (c .before .before .before .before .before .before .before .before .before .before .before .before .before .at-its-lock .ensures) at (c .before .before .before .before .before .before .before .before .before .before .leave .ensures .is store values) in
+    c .before .before .next .ensures .is store values
     ∙ ap (next _) (waits _ _ _ _ _ _ _ _ gone (c .before .before .before .before .before .before .unlock-mutex .ensures .is))
-    ∙ carries _ n _ _ _ (wait-is _ n _ ∙ needs-met 2 _ _ (omega (arith, c .before .before .before .before .before .before .before .before .before .before .before .before .before .before .before .before .before .before .before .before .before .before .before .before .before .before .before .before .before .if1 .left)) ∙ within-in _ _ _ _ _ (made (c .before .before .before .before .before .before .before .before .before .before .before .before .before .before .before .before .before .before .before .before .before .before .before .before .before)) ∙ within-in _ _ _ _ _ (mutex (c .before .before .before .before .before .before .before .before .before .before .before .before .before .before .before .before .before .before .before .before)) ∙ owns-it _ _ _ _ _ (sym (c .before .before .before .before .before .before .before .before .before .before .before .before .before .before .before .before .before .owner .ensures) ∙ c .before .before .before .before .before .before .before .before .before .before .before .before .before .before .before .if2 .left))
+    ∙ carries _ n _ _ _ (wait-is _ n _ ∙ needs-met 2 _ _ (omega (arith, c .before .before .before .before .before .before .before .before .before .before .before .before .before .before .before .before .before .before .before .before .before .before .before .before .before .before .before .before .if1 .left)) ∙ within-in _ _ _ _ _ (made (c .before .before .before .before .before .before .before .before .before .before .before .before .before .before .before .before .before .before .before .before .before .before .before .before)) ∙ within-in _ _ _ _ _ (mutex (c .before .before .before .before .before .before .before .before .before .before .before .before .before .before .before .before .before .before .before)) ∙ owns-it _ _ _ _ _ (sym (c .before .before .before .before .before .before .before .before .before .before .before .before .before .before .before .before .owner .ensures) ∙ c .before .before .before .before .before .before .before .before .before .before .before .before .before .before .if2 .left))
 
 pub wait-spec : {M : Type 1} → statement M
 wait-spec =
@@ -161,9 +156,7 @@ wait-spec =
     stop-requires-4
     same-length
     returns-4
-    advance-requires
-    sub-with-cells
-    with-cells-requires
+    at-its-lock-requires
     mul-leave
     add-leave
     add-leave-2
