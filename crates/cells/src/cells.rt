@@ -1,4 +1,5 @@
-// One cell of the store, by its address or by its place on a thread's stack.
+// One cell of the store, by its address or by its place on a thread's stack. A stack is taken as a part of the store: so the compiler knows its
+// start as one address, which stays while its thread runs.
 ghost use mathlib.Core.Path.{_≡_};
 ghost use Prim.Native.Nat.{_<_};
 ghost use lib.IntN.{pos};
@@ -10,14 +11,18 @@ pub fn peek(store: &[i32], size: usize, t: usize, i: usize) -> i32
     requires { ⌜ CellOf size t i (length (now store)) ⌝ }
     ensures { λ r. ⌜ r ≡ getD (now (store .entry)) (stackAt size t i) (pos 0) ⌝ }
 {
-    store[128 * (size + t) + i]
+    let at = 128 * (size + t);
+    let stack = &store[at..];
+    stack[i]
 }
 
 pub fn poke(store: &mut [i32], size: usize, t: usize, i: usize, v: i32)
     requires { ⌜ CellOf size t i (length (now store)) ⌝ }
     ensures { λ _. ⌜ now (store .exit) ≡ set (now (store .entry)) (stackAt size t i) v ⌝ }
 {
-    store[128 * (size + t) + i] = v;
+    let at = 128 * (size + t);
+    let stack = &mut store[at..];
+    stack[i] = v;
 }
 
 // A shared cell.
