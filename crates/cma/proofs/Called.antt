@@ -12,7 +12,7 @@ use Rattle.card.proofs.Header.{accepts, code-part}
 use Rattle.card.specs.Image.{codeOf, countOf, readOf}
 use Rattle.card.specs.declared.reader.Reading.the-variants as reading
 use Rattle.engine.specs.Contract.{Carded, Lasts, boxed}
-use Rattle.engine.specs.declared.runs.Progress.{Progress}
+use Rattle.engine.specs.declared.progress.Progress.{Progress}
 use Rattle.machine.proofs.Runs.{run-done, run-misfit, run-unformed, run-unread}
 use Rattle.machine.proofs.Slices.{slice-tables}
 use Rattle.machine.specs.Calls.{Called, answerOf, refused, runCall}

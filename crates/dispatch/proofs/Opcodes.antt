@@ -1,24 +1,22 @@
--- Opcodes that a match leaves, and operands that are numbers. Assumes nothing.
-use Prim.Native.Nat.{ℕ, zero, suc, _≤_}
-use mathlib.Core.Bool.{true}
-use mathlib.Core.Logic.{_≢_}
-use mathlib.Core.Path.{_≡_}
+-- Opcodes that the dispatcher's match leaves. Assumes nothing.
+use Prim.Native.Nat.{ℕ, _<_, _≤_}
+use mathlib.Core.Logic.{_⊎_, inl, inr}
 use native.Mathlib.Omega.{arith}
-use lib.Dec.{T}
-use lib.IntN.{ℤ, pos, negsuc}
-use lib.Signed.{leZ, nonNeg}
+use Rattle.local.proofs.Opcodes.{NoneOf, from-none}
+use Rattle.local.specs.Contract.{Others}
 
--- an opcode that is none of the first k ..
-abbrev pub NoneOf : ℕ → ℕ → Type 0
-NoneOf zero op = Unit
-NoneOf (suc k) op = NoneOf k op × (op ≢ k)
-
--- .. is k or more
-pub from-none : (k op : ℕ) → NoneOf k op → k ≤ op
-from-none zero op h = omega arith
-from-none (suc k) op h = omega (arith, from-none k op (h .0), h .1)
-
--- an operand that is not negative
-pub not-negative : (k : ℤ) → leZ (pos 0) k ≡ true → T (nonNeg k)
-not-negative (pos a) e = tt
-not-negative (negsuc a) e = absurd (let z : _≡_ {A = ℕ} 0 1 = cc in omega arith)
+-- no opcode of an accepted card is left
+pub none : (op : ℕ) → Others op → op ≤ 37 → NoneOf (NoneOf (NoneOf Unit 0 1 op) 6 1 op) 24 14 op → ⊥
+none op which most h =
+    let last = from-none _ 24 14 op h in
+    let six = from-none _ 6 1 op (last .0) in
+    let zero = from-none _ 0 1 op (six .0) in
+    by-opcode which (last .1) (six .1) (zero .1)
+  where
+    by-opcode : Others op → (op < 24) ⊎ (38 ≤ op) → (op < 6) ⊎ (7 ≤ op) → (op < 0) ⊎ (1 ≤ op) → ⊥
+    by-opcode which (inr e) d b = omega (arith, e, most)
+    by-opcode (inr (inr k)) (inl e) d b = omega (arith, k, e)
+    by-opcode (inr (inl k)) (inl e) (inl d) b = omega (arith, k, d)
+    by-opcode (inr (inl k)) (inl e) (inr d) b = omega (arith, k, d)
+    by-opcode (inl k) (inl e) d (inl b) = omega (arith, b)
+    by-opcode (inl k) (inl e) d (inr b) = omega (arith, k, b)

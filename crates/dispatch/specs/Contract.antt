@@ -1,10 +1,8 @@
 -- What an instruction asks, and what it promises.
-use Prim.Native.Nat.{ℕ, _≤_}
-use mathlib.Core.Bool.{true}
+use Prim.Native.Nat.{ℕ}
 use mathlib.Core.List.{List}
 use mathlib.Core.Path.{_≡_}
-use lib.IntN.{ℤ, natAbs, pos}
-use lib.Signed.{leZ}
+use lib.IntN.{ℤ}
 use Rattle.machine.specs.Instructions.{Instruction}
 use Rattle.machine.specs.Tables.{tablesOf}
 use Rattle.machine.specs.declared.registers.Registers.{Registers}
@@ -17,16 +15,6 @@ pub record Working (size : ℕ) (r : Registers) (cells : ℕ) (tables : List ℕ
   pub made : Made size r
   pub good : Good size tables
   pub valued : values ≡ size
-
--- an operand that is a number of cells or a target
-abbrev pub Natural : ℤ → Type 0
-Natural k = leZ (pos 0) k ≡ true
-
--- an operand that an accepted card may have, where the machine takes it as a number of cells or a target
-pub record Permitted (opcode : ℕ) (operand : ℤ) : Type 0 where
-  pub few : opcode ≡ 6 → natAbs operand ≤ 127
-  pub count : opcode ≡ 6 → Natural operand
-  pub target : 20 ≤ opcode → opcode ≤ 21 → Natural operand
 
 -- an instruction does what the definitions say
 abbrev pub Executes : ℕ → ℕ → Instruction → List ℤ → List ℕ → List ℤ → Registers → List ℤ → List ℕ → List ℤ → Registers → Type 0

@@ -10,9 +10,9 @@ use lib.IntN.{ℤ}
 use lib.ListN.{length, length-append}
 use borrow.Author.Tests.{eq-eqb, ne-eqb}
 use Rattle.card.specs.Code.{wordsOf}
-use Rattle.engine.specs.Contract.{Carded, Carries, Lasts, boxed}
-use Rattle.engine.specs.declared.runs.Progress.{Progress}
+use Rattle.engine.specs.Contract.{Carded, Carries, Course, Under, boxed, stateAt}
 use Rattle.engine.proofs.Working.{words-of}
+use Rattle.machine.proofs.Lists.{same-or-not}
 use Rattle.machine.proofs.Laws.{bookFor, held-sound, sound-held}
 use Rattle.machine.proofs.Runs.{run-more, run-stopped}
 use Rattle.machine.proofs.Steady.{Right}
@@ -25,13 +25,6 @@ use Rattle.machine.specs.Step.{Ran, carried, countOf, joined, run, still}
 use Rattle.machine.specs.Tables.{tablesOf}
 use Rattle.machine.specs.declared.registers.Registers.{Registers}
 use Rattle.cells.specs.Contract.{at}
-
--- a run of m from a state has come to another, with so many carried out
-pub record Course (size : ℕ) (words : List ℕ) (start : State) (m : ℕ) (s : State) (count : ℕ) : Type 0 where
-  pub trace : List Entry
-  pub long : length trace ≡ count
-  pub within : count ≤ m
-  pub rest : run size words start m ≡ joined (record { state = s; trace = trace }) (run size words s (m - count))
 
 module _ (size : ℕ) (words : List ℕ) (start : State) (m : ℕ) where
   -- nothing was carried out yet
@@ -70,17 +63,28 @@ module _ (size : ℕ) (words : List ℕ) (start : State) (m : ℕ) where
       }
 
   -- .. or is a fault, and the machine stops
-  pub over-faulted : (s u : State) (count : ℕ) → Course size words start m s count → count < m → s .regs .state ≡ running → u ≡ carried size words s .state →
-      0 ≡ length (carried size words s .trace) → u .regs .state ≢ running →
-      (u ≡ run size words start m .state) × (count ≡ countOf (run size words start m))
-  over-faulted s u count c below runs is none stops =
+  pub faulted-at : (s u : State) (count : ℕ) → Course size words start m s count → count < m → s .regs .state ≡ running → u ≡ carried size words s .state →
+      0 ≡ length (carried size words s .trace) → u .regs .state ≢ running → Course size words start m u count
+  faulted-at s u count c below runs is none stops =
       let left : m - count ≡ suc (m - (count + 1)) = omega arith in
-      rw (more s u count (m - (count + 1)) c left runs is, run-stopped size words u (m - (count + 1)) (ne-eqb _ _ stops), append-nil)
-      (refl, omega (arith, length-append (c .trace) (carried size words s .trace), c .long, none))
+      let stopped : (k : ℕ) → run size words u k ≡ still u = λ k. run-stopped size words u k (ne-eqb _ _ stops) in
+      record {
+        trace = c .trace ++ carried size words s .trace;
+        long = omega (arith, length-append (c .trace) (carried size words s .trace), c .long, none);
+        within = c .within;
+        rest = more s u count (m - (count + 1)) c left runs is ∙ rw (stopped (m - (count + 1)), stopped (m - count));
+      }
 
--- a box, in slices, as a state
-abbrev pub stateAt : ℕ → List ℤ → List ℕ → List ℤ → Registers → State
-stateAt size store tables values r = at store (tablesOf size tables) values r
+  -- what is left has come further
+  pub further : (s u : State) (count more : ℕ) → Course size words start m s count → Course size words s (m - count) u more → Course size words start m u (count + more)
+  further s u count more c d =
+      let left : m - count - more ≡ m - (count + more) = omega arith in
+      record {
+        trace = c .trace ++ d .trace;
+        long = length-append (c .trace) (d .trace) ∙ rw (c .long, d .long);
+        within = omega (arith, c .within, d .within);
+        rest = rw (c .rest, d .rest, left, append-assoc);
+      }
 
 module _ (size : ℕ) (code : List ℕ) (n : ℕ) (card : Carded code n) (store : List ℤ) (tables : List ℕ) (values : List ℤ) (r : Registers) (h : Sound size (boxed store tables values r)) (runs : r .state ≡ running) where
   before : Right size (stateAt size store tables values r) (bookFor size (boxed store tables values r))
@@ -113,10 +117,19 @@ module _ (size : ℕ) (code : List ℕ) (n : ℕ) (card : Carded code n) (store 
       1 ≡ length (carried size (wordsOf code) (stateAt size store tables values r) .trace)
   tells-done store′ tables′ values′ q is e = rw (ne-eqb _ _ e) at (tells store′ tables′ values′ q is)
 
--- a run under way in lent slices: sound, and as long as they were
-pub record Under (size : ℕ) (code : List ℕ) (m : ℕ) (store₀ : List ℤ) (tables₀ : List ℕ) (values₀ : List ℤ) (r₀ : Registers) (store : List ℤ) (tables : List ℕ) (values : List ℤ) (r : Registers) (count : ℕ) : Type 0 where
-  pub sound : Sound size (boxed store tables values r)
-  pub course : Course size (wordsOf code) (stateAt size store₀ tables₀ values₀ r₀) m (stateAt size store tables values r) count
+-- a run under way in lent slices that are as long as they were
+pub record Going (size : ℕ) (code : List ℕ) (m : ℕ) (store₀ : List ℤ) (tables₀ : List ℕ) (values₀ : List ℤ) (r₀ : Registers) (store : List ℤ) (tables : List ℕ) (values : List ℤ) (r : Registers) (count : ℕ) : Type 0 where
+  pub under : Under size code m store₀ tables₀ values₀ r₀ store tables values r count
   pub store-long : length store ≡ length store₀
   pub tables-long : length tables ≡ length tables₀
   pub values-long : length values ≡ length values₀
+
+-- what is left of a run: the instructions, and a look at a machine that runs
+abbrev pub ahead : ℕ → ℕ → ℕ → ℕ
+ahead m count state = m - count + cond (eqb state running) 1 0
+
+-- it falls where something was carried out, or the machine has stopped
+pub falls : (m count more state after : ℕ) → count < m → state ≡ running → (after ≡ running → 1 ≤ more) → ahead m (count + more) after < ahead m count state
+falls m count more state after below runs went =
+    rw (eq-eqb _ _ runs)
+    (same-or-not after running (λ e. rw (eq-eqb _ _ e) (omega (arith, below, went e))) (λ e. rw (ne-eqb _ _ e) (omega (arith, below))))

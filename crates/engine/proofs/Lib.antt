@@ -1,3 +1,4 @@
 pub mod Operands
 pub mod Working
 pub mod Course
+pub mod Inside

@@ -9,7 +9,8 @@ use lib.ListN.{length, getD}
 use borrow.Author.Tests.{le-ltb, lt-ltb}
 use Rattle.card.proofs.Words.{count, word}
 use Rattle.card.specs.Code.{instructionAt, wordsOf}
-use Rattle.dispatch.specs.Contract.{Permitted, Working}
+use Rattle.dispatch.specs.Contract.{Working}
+use Rattle.local.specs.Contract.{Permitted}
 use Rattle.engine.specs.Contract.{Carded, boxed}
 use Rattle.engine.proofs.Operands.{count-fits, target-natural}
 use Rattle.machine.proofs.Held.{card-of}

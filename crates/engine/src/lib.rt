@@ -1,6 +1,7 @@
-// The engine: one instruction, and a run of many, of a machine that is in order. Inner: the public calls test their input first.
+// The engine: a run of many instructions, of a machine that is in order. Inner: the public calls test their input first.
+mod progress;
 mod runs;
+mod stretches;
 
-pub use runs::Progress;
-pub use runs::carry;
+pub use progress::Progress;
 pub use runs::run;

@@ -1,23 +1,20 @@
 // One instruction of a running machine, and a run of many.
-ghost use Prim.Native.Nat.{_≤_};
+ghost use Prim.Native.Nat.{_≤_, _<_};
 ghost use mathlib.Core.Path.{_≡_};
-ghost use Rattle.engine.specs.Contract.{Carded, Carries, Lasts, boxed};
+ghost use Rattle.card.specs.Code.{instructionAt};
+ghost use Rattle.engine.specs.Contract.{Carded, Carries, Lasts, Onward, boxed};
+ghost use Rattle.local.specs.Contract.{Others};
 ghost use Rattle.machine.specs.Laws.{Sound};
-use dispatch::execute;
+use crate::progress::Progress;
+use crate::stretches::stretch;
 use machine::Registers;
 
 const RUNNING: usize = 1;
 
 const FAULTED: usize = 3;
 
-// The registers after a run, and the number of instructions carried out.
-pub struct Progress {
-    pub registers: Registers,
-    pub count: usize,
-}
-
-// Carries out the instruction at PC, or stops with a fault.
-pub fn carry(
+// Carries out the instruction at PC, which ended a stretch, or stops with a fault.
+fn carry(
     code: &[u8],
     store: &mut [i32],
     tables: &mut [usize],
@@ -30,6 +27,7 @@ pub fn carry(
     requires { ⌜ size ≤ 32 ⌝ }
     requires { ⌜ Sound size (boxed (now store) (now tables) (now values) r) ⌝ }
     requires { ⌜ r .state ≡ 1 ⌝ }
+    requires { ⌜ (r .pc < n → Others (instructionAt (now code) (r .pc) .opcode)) ⌝ }
     ensures { λ q. ⌜ Carries size (now (code .entry)) (now (store .entry)) (now (tables .entry)) (now (values .entry)) r (now (store .exit)) (now (tables .exit)) (now (values .exit)) q ⌝ }
 {
     let pc = r.pc;
@@ -37,7 +35,42 @@ pub fn carry(
         return r.stop(20);
     }
     let i = card::fetch(code, pc);
-    execute(store, tables, values, size, n, r, i.opcode, i.operand)
+    dispatch::execute(store, tables, values, size, n, r, i.opcode, i.operand)
+}
+
+// A stretch, and the instruction that ended it.
+fn onward(
+    code: &[u8],
+    store: &mut [i32],
+    tables: &mut [usize],
+    values: &mut [i32],
+    size: usize,
+    n: usize,
+    r: Registers,
+    m: usize,
+) -> Progress
+    requires { ⌜ Carded (now code) n ⌝ }
+    requires { ⌜ size ≤ 32 ⌝ }
+    requires { ⌜ Sound size (boxed (now store) (now tables) (now values) r) ⌝ }
+    ensures { λ p. ⌜ Onward size (now (code .entry)) m (now (store .entry)) (now (tables .entry)) (now (values .entry)) r (now (store .exit)) (now (tables .exit)) (now (values .exit)) p ⌝ }
+{
+    let p = stretch(code, store, size, n, r, m);
+    let count = p.count;
+    if m <= count {
+        return p;
+    }
+    let reached = p.registers;
+    if reached.state != RUNNING {
+        return p;
+    }
+    let registers = carry(code, store, tables, values, size, n, reached);
+    if registers.state == FAULTED {
+        return Progress { registers, count };
+    }
+    Progress {
+        registers,
+        count: count + 1,
+    }
 }
 
 // Runs a machine for at most `m` instructions, until it stops.
@@ -62,11 +95,9 @@ pub fn run(
         if registers.state != RUNNING {
             return Progress { registers, count };
         }
-        registers = carry(code, store, tables, values, size, n, registers);
-        if registers.state == FAULTED {
-            return Progress { registers, count };
-        }
-        count += 1;
+        let p = onward(code, store, tables, values, size, n, registers, m - count);
+        registers = p.registers;
+        count += p.count;
     }
     Progress { registers, count }
 }

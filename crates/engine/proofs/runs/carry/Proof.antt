@@ -22,8 +22,8 @@ execute-requires c κs =
     let given = c .before .before .before .before .before .before .before .before .pre in
     let below = c .before .before .before .before .before .if1 .left in
     let fine = permitted _ _ (given .0) _ below in (
-      working _ _ (given .0) _ _ _ _ _ (given .1 .1 .0) (given .1 .1 .1) (given .1 .0) below,
-      rw (toZ-ofZ (sfits-of {w = w32} {z = c .before .before .before .before .fetch .result .operand} (c .struct-told .given .1 .0 .1)), c .before .before .before .before .fetch .ensures) fine,
+      working _ _ (given .0) _ _ _ _ _ (given .1 .1 .0) (given .1 .1 .1 .0) (given .1 .0) below,
+      rw (toZ-ofZ (sfits-of {w = w32} {z = c .before .before .before .before .fetch .result .operand} (c .struct-told .given .1 .0 .1)), c .before .before .before .before .fetch .ensures) (fine .0, (given .1 .1 .1 .1 below, fine .1)),
     )
 
 same-length : tie.Need-same-length

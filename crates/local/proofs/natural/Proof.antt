@@ -1,12 +1,12 @@
--- `dispatch::natural` meets its contract. Assumes nothing.
+-- `local::natural` meets its contract. Assumes nothing.
 use Prim.Native.Nat.{ℕ}
 use mathlib.Core.Path.{_≡_, refl, sym, ap, _∙_}
 use native.Mathlib.Omega.{arith}
 use borrow.Author.Needs.{needs}
 use mir.Facts.{fits-natAbs, toZ-ofZ}
-use Rattle.dispatch.proofs.Opcodes.{not-negative}
-use Rattle.dispatch.proofs.natural.Statement.{statement}
-use Rattle.dispatch.proofs.natural.Tie as tie
+use Rattle.local.proofs.Opcodes.{not-negative}
+use Rattle.local.proofs.natural.Statement.{statement}
+use Rattle.local.proofs.natural.Tie as tie
 
 cast-result : tie.Need-cast-result
 cast-result c = rw (toZ-ofZ (c .fits .k)) (not-negative (c .args .k) (c .pre), fits-natAbs tt (c .fits .k))
