@@ -11,6 +11,7 @@ use crate::numbers::push_number;
 use machine::First;
 use machine::Mutex;
 use machine::Registers;
+use machine::Thread;
 
 pub fn newmutex(store: &mut [i32], size: usize, r: Registers) -> Registers
     requires { ⌜ Able size r (length (now store)) ⌝ }
@@ -46,7 +47,7 @@ pub fn lock(store: &[i32], tables: &mut [usize], size: usize, r: Registers) -> R
     let popped = r.advance().with_cells(cells - 1);
     let owner = tables::owner(tables, size, m);
     if owner == size {
-        tables::own(tables, size, m, r.thread);
+        tables::own(tables, size, m, Thread(r.thread));
         return popped;
     }
     threads::block(tables, size, popped, 4 + m.0)
@@ -82,8 +83,8 @@ pub fn unlock_mutex(tables: &mut [usize], size: usize, m: Mutex)
     ensures { λ _. ⌜ Left size (now (tables .exit)) (unlocked size (tablesOf size (now (tables .entry))) (m .0)) ⌝ }
 {
     let First::Waiter(t) = tables::dequeue(tables, size, 4 + m.0, tables::READY) else {
-        tables::own(tables, size, m, size);
+        tables::free(tables, size, m);
         return;
     };
-    tables::own(tables, size, m, t.0);
+    tables::own(tables, size, m, t);
 }

@@ -5,6 +5,7 @@ ghost use Prim.Native.Nat.{_+_, _*_, _<_, _≤_};
 ghost use lib.Dec.{eqb};
 ghost use lib.ListN.{drop, getD, length};
 ghost use Rattle.machine.specs.Lists.{count};
+ghost use Rattle.machine.specs.Registers.{nobody};
 ghost use Rattle.machine.specs.Tables.{anyLive, ended, first, owned, ownerOf, placeOf, saved, sent, tablesOf, wakeAll};
 ghost use Rattle.tables.specs.Good.{Dequeued, Good, Left, endMoved};
 use machine::First;
@@ -81,14 +82,23 @@ pub fn save(tables: &mut [usize], size: usize, t: Thread, pc: usize, cells: usiz
     tables[3 * size + at] = fp;
 }
 
-// Gives a mutex an owner, or `size` for none.
-pub fn own(tables: &mut [usize], size: usize, m: Mutex, owner: usize)
+// Gives a mutex an owner.
+pub fn own(tables: &mut [usize], size: usize, m: Mutex, t: Thread)
     requires { ⌜ Good size (now tables) ⌝ }
     requires { ⌜ m .0 < 2 * size ⌝ }
-    ensures { λ _. ⌜ Left size (now (tables .exit)) (owned (tablesOf size (now (tables .entry))) (m .0) owner) ⌝ }
+    ensures { λ _. ⌜ Left size (now (tables .exit)) (owned (tablesOf size (now (tables .entry))) (m .0) (t .0)) ⌝ }
 {
     let at = m.0;
-    tables[4 * size + at] = owner;
+    tables[4 * size + at] = t.0;
+}
+
+// Leaves a mutex without one.
+pub fn free(tables: &mut [usize], size: usize, m: Mutex)
+    requires { ⌜ Good size (now tables) ⌝ }
+    requires { ⌜ m .0 < 2 * size ⌝ }
+    ensures { λ _. ⌜ Left size (now (tables .exit)) (owned (tablesOf size (now (tables .entry))) (m .0) (nobody size)) ⌝ }
+{
+    own(tables, size, m, Thread(size));
 }
 
 // Moves the one `t` from `from` on to the end of the slice. It walks back from the end, so that what stands before `t` is not read.

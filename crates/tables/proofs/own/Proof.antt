@@ -26,8 +26,8 @@ same-length c = search needs
 returns : tie.Need-returns
 returns c =
     let a = c .args in
-    still-good (a .size) (now (a .tables)) _ _ (c .pre .0) (store-owner (a .size) (now (a .tables)) (a .m .0) (a .owner) (c .pre .1))
-    (owned-line (tablesOf (a .size) (now (a .tables))) (a .m .0) (a .owner)) (simp length-set)
+    still-good (a .size) (now (a .tables)) _ _ (c .pre .0) (store-owner (a .size) (now (a .tables)) (a .m .0) (a .t .0) (c .pre .1))
+    (owned-line (tablesOf (a .size) (now (a .tables))) (a .m .0) (a .t .0)) (simp length-set)
 
 pub own-spec : {M : Type 1} → statement M
 own-spec =

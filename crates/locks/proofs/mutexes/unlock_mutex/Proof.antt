@@ -17,8 +17,8 @@ enum-known-t c = search needs
 enum-told : tie.Need-enum-told
 enum-told c = search needs
 
-own-requires : tie.Need-own-requires
-own-requires c κs = search needs
+free-requires : tie.Need-free-requires
+free-requires c κs = search needs
 
 same-length : tie.Need-same-length
 same-length c = search needs
@@ -28,12 +28,12 @@ returns c =
     let d = c .before .before .before .before .before .before .before .before .dequeue .ensures in
     let none = c .before .before .before .before .enum-told .given .1 in
     record {
-      is = freed _ _ _ _ _ (took-first _ _ _ _ _ _ _ d none) (took-tables _ _ _ _ _ _ _ d none) (c .before .before .own .ensures .is);
-      good = c .before .before .own .ensures .good;
+      is = freed _ _ _ _ _ (took-first _ _ _ _ _ _ _ d none) (took-tables _ _ _ _ _ _ _ d none) (c .before .before .free .ensures .is);
+      good = c .before .before .free .ensures .good;
     }
 
-own-requires-2 : tie.Need-own-requires-2
-own-requires-2 c κs = search needs
+own-requires : tie.Need-own-requires
+own-requires c κs = search needs
 
 same-length-2 : tie.Need-same-length-2
 same-length-2 c = search needs
@@ -43,8 +43,8 @@ returns-2 c =
     let d = c .before .before .before .before .before .before .before .before .before .dequeue .ensures in
     let who = c .before .before .before .before .before .t .given .1 in
     record {
-      is = given _ _ _ _ _ _ (took-first _ _ _ _ _ _ _ d who) (took-tables _ _ _ _ _ _ _ d who) (c .before .before .own2 .ensures .is);
-      good = c .before .before .own2 .ensures .good;
+      is = given _ _ _ _ _ _ (took-first _ _ _ _ _ _ _ d who) (took-tables _ _ _ _ _ _ _ d who) (c .before .before .own .ensures .is);
+      good = c .before .before .own .ensures .good;
     }
 
 pub unlock-mutex-spec : {M : Type 1} → statement M
@@ -55,9 +55,9 @@ unlock-mutex-spec =
     dequeue-requires
     enum-known-t
     enum-told
-    own-requires
+    free-requires
     same-length
     returns
-    own-requires-2
+    own-requires
     same-length-2
     returns-2)
