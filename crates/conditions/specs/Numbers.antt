@@ -1,9 +1,9 @@
--- The number of a condition that a check let through.
-use Rattle.cells.specs.declared.index.Index.{Index}
-use Rattle.cells.specs.declared.index.Index.the-variants.{In, Out}
+-- The number of a condition that a check found.
+use Rattle.cells.specs.declared.top.Named.{Named}
+use Rattle.cells.specs.declared.top.Named.the-variants.{Number, Fault}
 use Rattle.conditions.specs.declared.numbers.ACondition.{ACondition}
 use Rattle.conditions.specs.declared.numbers.ACondition.the-variants as condition
 
-abbrev pub conditionNumber : ACondition → Index
-conditionNumber (condition.Made c) = In (c .0)
-conditionNumber condition.Missing = Out
+abbrev pub conditionNamed : ACondition → Named
+conditionNamed (condition.Made c) = Number (c .0)
+conditionNamed (condition.Fault number) = Fault number

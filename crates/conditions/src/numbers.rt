@@ -1,20 +1,25 @@
-// The number of a condition is made by the check that it is one of those made.
+// The number of a condition is made by the check that it is one of those made, which gives 27 where it isn't.
 ghost use mathlib.Core.Path.{_≡_};
-ghost use Rattle.cells.specs.Contract.{indexOf};
-ghost use Rattle.conditions.specs.Numbers.{conditionNumber};
-use cells::Index;
+ghost use lib.ListN.{length};
+ghost use Rattle.cells.specs.Contract.{Able};
+ghost use Rattle.cells.specs.Top.{numberAt};
+ghost use Rattle.conditions.specs.Numbers.{conditionNamed};
+use cells::Named;
 use machine::Condition;
+use machine::Registers;
 
 pub enum ACondition {
     Made(Condition),
-    Missing,
+    Fault(usize),
 }
 
-pub fn a_condition(v: i32, conditions: usize) -> ACondition
-    ensures { λ r. ⌜ indexOf v conditions ≡ conditionNumber r ⌝ }
+// The condition that top names.
+pub fn a_condition(store: &[i32], size: usize, r: Registers) -> ACondition
+    requires { ⌜ Able size r (length (now store)) ⌝ }
+    ensures { λ c. ⌜ numberAt size (now (store .entry)) r 1 (r .conditions) 27 ≡ conditionNamed c ⌝ }
 {
-    let Index::In(c) = cells::checked(v, conditions) else {
-        return ACondition::Missing;
-    };
-    ACondition::Made(Condition(c))
+    match cells::number_at(store, size, r, 1, r.conditions, 27) {
+        Named::Number(c) => ACondition::Made(Condition(c)),
+        Named::Fault(number) => ACondition::Fault(number),
+    }
 }

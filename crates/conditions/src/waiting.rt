@@ -6,6 +6,8 @@ ghost use Rattle.machine.specs.Instructions.{broadcast, newcond, signal, wait};
 ghost use Rattle.machine.specs.Registers.{advanced, withCells};
 ghost use Rattle.machine.specs.Tables.{atCondition, tablesOf, wakeAll, wakeFirst};
 ghost use Rattle.cells.specs.Contract.{Able, Acts, Does, Made};
+ghost use Rattle.cells.specs.Top.{numberAt};
+ghost use Rattle.cells.specs.declared.top.Named.the-variants.{Number};
 ghost use Rattle.tables.specs.Good.{Good, Left};
 use crate::numbers::ACondition;
 use crate::numbers::a_condition;
@@ -34,42 +36,60 @@ pub fn newcond(store: &mut [i32], size: usize, r: Registers) -> Registers
 }
 
 // What a waiter goes on with when it is woken: the instruction after wait, the card's own lock, and the mutex on top.
-fn at_its_lock(r: Registers, cells: usize) -> Registers
+fn at_its_lock(r: Registers) -> Registers
     requires { ⌜ r .pc < 4096 ⌝ }
-    requires { ⌜ 1 ≤ cells ⌝ }
-    ensures { λ q. ⌜ q ≡ withCells (advanced r) (cells - 1) ⌝ }
+    requires { ⌜ 1 ≤ r .cells ⌝ }
+    ensures { λ q. ⌜ q ≡ withCells (advanced r) (r .cells - 1) ⌝ }
 {
     let pc = r.pc;
+    let cells = r.cells;
     r.with_pc(pc + 1).with_cells(cells - 1)
 }
 
-// The condition is looked at before the mutex, which must be the thread's own.
+// Waits for the condition that top names. The mutex below it must be the thread's own.
+fn wait_for(
+    store: &[i32],
+    tables: &mut [usize],
+    size: usize,
+    r: Registers,
+    c: Condition,
+) -> Registers
+    requires { ⌜ Able size r (length (now store)) ⌝ }
+    requires { ⌜ Good size (now tables) ⌝ }
+    requires { ⌜ Made size r ⌝ }
+    requires { ⌜ 2 ≤ r .cells ⌝ }
+    requires { ⌜ numberAt size (now store) r 1 (r .conditions) 27 ≡ Number (c .0) ⌝ }
+    ensures { λ q. ⌜ Acts size wait (now (store .entry)) (now (tables .entry)) r (now (store .entry)) (now (tables .exit)) q ⌝ }
+{
+    match a_mutex(store, size, r, 2) {
+        AMutex::Fault(number) => r.stop(number),
+        AMutex::Made(m) => {
+            let owner = tables::owner(tables, size, m);
+            if owner != r.thread {
+                return r.stop(28);
+            }
+            let away = at_its_lock(r);
+            let gone = threads::leave(tables, size, away, 4 + 2 * size + c.0);
+            unlock_mutex(tables, size, m);
+            threads::next(tables, size, gone)
+        }
+    }
+}
+
+// The condition is looked at before the mutex.
 pub fn wait(store: &[i32], tables: &mut [usize], size: usize, r: Registers) -> Registers
     requires { ⌜ Able size r (length (now store)) ⌝ }
     requires { ⌜ Good size (now tables) ⌝ }
     requires { ⌜ Made size r ⌝ }
     ensures { λ q. ⌜ Acts size wait (now (store .entry)) (now (tables .entry)) r (now (store .entry)) (now (tables .exit)) q ⌝ }
 {
-    let cells = r.cells;
-    if cells < 2 {
+    if r.cells < 2 {
         return r.stop(21);
     }
-    let top = cells::peek(store, size, r.thread, cells - 1);
-    let ACondition::Made(c) = a_condition(top, r.conditions) else {
-        return r.stop(27);
-    };
-    let below = cells::peek(store, size, r.thread, cells - 2);
-    let AMutex::Made(m) = a_mutex(below, r.mutexes) else {
-        return r.stop(27);
-    };
-    let owner = tables::owner(tables, size, m);
-    if owner != r.thread {
-        return r.stop(28);
+    match a_condition(store, size, r) {
+        ACondition::Fault(number) => r.stop(number),
+        ACondition::Made(c) => wait_for(store, tables, size, r, c),
     }
-    let popped = at_its_lock(r, cells);
-    let gone = threads::leave(tables, size, popped, 4 + 2 * size + c.0);
-    unlock_mutex(tables, size, m);
-    threads::next(tables, size, gone)
 }
 
 // The first who waits for a condition, if any, is ready.
@@ -99,16 +119,13 @@ pub fn signal(store: &[i32], tables: &mut [usize], size: usize, r: Registers) ->
     requires { ⌜ Made size r ⌝ }
     ensures { λ q. ⌜ Acts size signal (now (store .entry)) (now (tables .entry)) r (now (store .entry)) (now (tables .exit)) q ⌝ }
 {
-    let cells = r.cells;
-    if cells < 1 {
-        return r.stop(21);
+    match a_condition(store, size, r) {
+        ACondition::Fault(number) => r.stop(number),
+        ACondition::Made(c) => {
+            wake_first(tables, size, c);
+            cells::popped(r)
+        }
     }
-    let top = cells::peek(store, size, r.thread, cells - 1);
-    let ACondition::Made(c) = a_condition(top, r.conditions) else {
-        return r.stop(27);
-    };
-    wake_first(tables, size, c);
-    r.advance().with_cells(cells - 1)
 }
 
 pub fn broadcast(store: &[i32], tables: &mut [usize], size: usize, r: Registers) -> Registers
@@ -117,14 +134,11 @@ pub fn broadcast(store: &[i32], tables: &mut [usize], size: usize, r: Registers)
     requires { ⌜ Made size r ⌝ }
     ensures { λ q. ⌜ Acts size broadcast (now (store .entry)) (now (tables .entry)) r (now (store .entry)) (now (tables .exit)) q ⌝ }
 {
-    let cells = r.cells;
-    if cells < 1 {
-        return r.stop(21);
+    match a_condition(store, size, r) {
+        ACondition::Fault(number) => r.stop(number),
+        ACondition::Made(c) => {
+            wake_all(tables, size, c);
+            cells::popped(r)
+        }
     }
-    let top = cells::peek(store, size, r.thread, cells - 1);
-    let ACondition::Made(c) = a_condition(top, r.conditions) else {
-        return r.stop(27);
-    };
-    wake_all(tables, size, c);
-    r.advance().with_cells(cells - 1)
 }

@@ -72,19 +72,16 @@ pub fn join(store: &[i32], tables: &mut [usize], size: usize, r: Registers) -> R
     requires { ⌜ Made size r ⌝ }
     ensures { λ q. ⌜ Acts size join (now (store .entry)) (now (tables .entry)) r (now (store .entry)) (now (tables .exit)) q ⌝ }
 {
-    let cells = r.cells;
-    if cells < 1 {
-        return r.stop(21);
+    match a_thread(store, size, r) {
+        AThread::Fault(number) => r.stop(number),
+        AThread::Made(t) => {
+            let place = tables::place(tables, size, t);
+            if place == ENDED {
+                return r.advance();
+            }
+            block(tables, size, r.advance(), queue_of(size, t))
+        }
     }
-    let top = cells::peek(store, size, r.thread, cells - 1);
-    let AThread::Made(t) = a_thread(top, r.threads) else {
-        return r.stop(27);
-    };
-    let place = tables::place(tables, size, t);
-    if place == ENDED {
-        return r.advance();
-    }
-    block(tables, size, r.advance(), queue_of(size, t))
 }
 
 pub fn finalize(
@@ -100,19 +97,17 @@ pub fn finalize(
     requires { ⌜ Made size r ⌝ }
     ensures { λ q. ⌜ Changes size finalize (now (store .entry)) (now (tables .entry)) (now (values .entry)) r (now (store .exit)) (now (tables .entry)) (now (values .entry)) q ⌝ }
 {
-    let cells = r.cells;
-    if cells < 1 {
-        return r.stop(21);
+    match a_thread(store, size, r) {
+        AThread::Fault(number) => r.stop(number),
+        AThread::Made(t) => {
+            let place = tables::place(tables, size, t);
+            if place != ENDED {
+                return r.stop(29);
+            }
+            let v = cells::read(values, t.0);
+            let cells = r.cells;
+            cells::poke(store, size, r.thread, cells - 1, v);
+            r.advance()
+        }
     }
-    let top = cells::peek(store, size, r.thread, cells - 1);
-    let AThread::Made(t) = a_thread(top, r.threads) else {
-        return r.stop(27);
-    };
-    let place = tables::place(tables, size, t);
-    if place != ENDED {
-        return r.stop(29);
-    }
-    let v = cells::read(values, t.0);
-    cells::poke(store, size, r.thread, cells - 1, v);
-    r.advance()
 }

@@ -1,4 +1,4 @@
--- The number of a mutex that a check let through, and the number of the next.
+-- The number of a mutex that a check found, and the number of the next.
 use Prim.Native.Nat.{ℕ, _+_}
 use mathlib.Core.Bool.{cond}
 use mathlib.Core.List.{List}
@@ -10,14 +10,15 @@ use Rattle.machine.specs.Registers.{advanced, withCells}
 use Rattle.machine.specs.Size.{mutexLimit, stackAt}
 use Rattle.machine.specs.State.{minusOne}
 use Rattle.machine.specs.declared.registers.Registers.{Registers}
-use Rattle.cells.specs.declared.index.Index.{Index}
-use Rattle.cells.specs.declared.index.Index.the-variants.{In, Out}
+use Rattle.cells.specs.declared.top.Named.{Named}
+use Rattle.cells.specs.declared.top.Named.the-variants.{Number, Fault}
 use Rattle.locks.specs.declared.numbers.AMutex.{AMutex}
 use Rattle.locks.specs.declared.numbers.AMutex.the-variants as mutex
 
-abbrev pub mutexNumber : AMutex → Index
-mutexNumber (mutex.Made m) = In (m .0)
-mutexNumber mutex.Missing = Out
+-- what a check found
+abbrev pub mutexNamed : AMutex → Named
+mutexNamed (mutex.Made m) = Number (m .0)
+mutexNamed (mutex.Fault number) = Fault number
 
 -- "the next number, or −1 exactly if 64 were made"
 abbrev pub nextNumber : ℕ → ℕ → ℤ

@@ -36,21 +36,18 @@ pub fn lock(store: &[i32], tables: &mut [usize], size: usize, r: Registers) -> R
     requires { ⌜ Made size r ⌝ }
     ensures { λ q. ⌜ Acts size lock (now (store .entry)) (now (tables .entry)) r (now (store .entry)) (now (tables .exit)) q ⌝ }
 {
-    let cells = r.cells;
-    if cells < 1 {
-        return r.stop(21);
+    match a_mutex(store, size, r, 1) {
+        AMutex::Fault(number) => r.stop(number),
+        AMutex::Made(m) => {
+            let after = cells::popped(r);
+            let owner = tables::owner(tables, size, m);
+            if owner == size {
+                tables::own(tables, size, m, Thread(r.thread));
+                return after;
+            }
+            threads::block(tables, size, after, 4 + m.0)
+        }
     }
-    let top = cells::peek(store, size, r.thread, cells - 1);
-    let AMutex::Made(m) = a_mutex(top, r.mutexes) else {
-        return r.stop(27);
-    };
-    let popped = r.advance().with_cells(cells - 1);
-    let owner = tables::owner(tables, size, m);
-    if owner == size {
-        tables::own(tables, size, m, Thread(r.thread));
-        return popped;
-    }
-    threads::block(tables, size, popped, 4 + m.0)
 }
 
 // Only the owner unlocks.
@@ -60,20 +57,17 @@ pub fn unlock(store: &[i32], tables: &mut [usize], size: usize, r: Registers) ->
     requires { ⌜ Made size r ⌝ }
     ensures { λ q. ⌜ Acts size unlock (now (store .entry)) (now (tables .entry)) r (now (store .entry)) (now (tables .exit)) q ⌝ }
 {
-    let cells = r.cells;
-    if cells < 1 {
-        return r.stop(21);
+    match a_mutex(store, size, r, 1) {
+        AMutex::Fault(number) => r.stop(number),
+        AMutex::Made(m) => {
+            let owner = tables::owner(tables, size, m);
+            if owner != r.thread {
+                return r.stop(28);
+            }
+            unlock_mutex(tables, size, m);
+            cells::popped(r)
+        }
     }
-    let top = cells::peek(store, size, r.thread, cells - 1);
-    let AMutex::Made(m) = a_mutex(top, r.mutexes) else {
-        return r.stop(27);
-    };
-    let owner = tables::owner(tables, size, m);
-    if owner != r.thread {
-        return r.stop(28);
-    }
-    unlock_mutex(tables, size, m);
-    r.advance().with_cells(cells - 1)
 }
 
 // The first waiter owns the mutex and is ready; with none, the mutex is free.

@@ -1,25 +1,29 @@
-// The number of a mutex is made by the check that it is one of those made.
+// The number of a mutex is made by the check that it is one of those made, which gives 27 where it isn't.
 ghost use Prim.Native.Nat.{_<_, _≤_};
 ghost use lib.ListN.{length};
 ghost use mathlib.Core.Path.{_≡_};
-ghost use Rattle.cells.specs.Contract.{Able, indexOf};
-ghost use Rattle.locks.specs.Numbers.{Numbers, mutexNumber, nextNumber};
-use cells::Index;
+ghost use Rattle.cells.specs.Contract.{Able};
+ghost use Rattle.cells.specs.Top.{numberAt};
+ghost use Rattle.locks.specs.Numbers.{Numbers, mutexNamed, nextNumber};
+use cells::Named;
 use machine::Mutex;
 use machine::Registers;
 
 pub enum AMutex {
     Made(Mutex),
-    Missing,
+    Fault(usize),
 }
 
-pub fn a_mutex(v: i32, mutexes: usize) -> AMutex
-    ensures { λ r. ⌜ indexOf v mutexes ≡ mutexNumber r ⌝ }
+// The mutex that the cell `at` from the top names: 1 is top, 2 the cell below it.
+pub fn a_mutex(store: &[i32], size: usize, r: Registers, at: usize) -> AMutex
+    requires { ⌜ Able size r (length (now store)) ⌝ }
+    requires { ⌜ 1 ≤ at ⌝ }
+    ensures { λ m. ⌜ numberAt size (now (store .entry)) r at (r .mutexes) 27 ≡ mutexNamed m ⌝ }
 {
-    let Index::In(m) = cells::checked(v, mutexes) else {
-        return AMutex::Missing;
-    };
-    AMutex::Made(Mutex(m))
+    match cells::number_at(store, size, r, at, r.mutexes, 27) {
+        Named::Number(m) => AMutex::Made(Mutex(m)),
+        Named::Fault(number) => AMutex::Fault(number),
+    }
 }
 
 // The number of the next mutex or condition where `made` were made, or −1 where no more can be.

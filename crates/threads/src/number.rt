@@ -1,20 +1,25 @@
-// A thread's number is made by the check that it is one of those made.
+// A thread's number is made by the check that it is one of those made, which gives 27 where it isn't.
 ghost use mathlib.Core.Path.{_≡_};
-ghost use Rattle.cells.specs.Contract.{indexOf};
-ghost use Rattle.threads.specs.Contract.{numberOf};
-use cells::Index;
+ghost use lib.ListN.{length};
+ghost use Rattle.cells.specs.Contract.{Able};
+ghost use Rattle.cells.specs.Top.{numberAt};
+ghost use Rattle.threads.specs.Contract.{threadNamed};
+use cells::Named;
+use machine::Registers;
 use machine::Thread;
 
 pub enum AThread {
     Made(Thread),
-    Missing,
+    Fault(usize),
 }
 
-pub fn a_thread(v: i32, threads: usize) -> AThread
-    ensures { λ r. ⌜ indexOf v threads ≡ numberOf r ⌝ }
+// The thread that top names.
+pub fn a_thread(store: &[i32], size: usize, r: Registers) -> AThread
+    requires { ⌜ Able size r (length (now store)) ⌝ }
+    ensures { λ t. ⌜ numberAt size (now (store .entry)) r 1 (r .threads) 27 ≡ threadNamed t ⌝ }
 {
-    let Index::In(t) = cells::checked(v, threads) else {
-        return AThread::Missing;
-    };
-    AThread::Made(Thread(t))
+    match cells::number_at(store, size, r, 1, r.threads, 27) {
+        Named::Number(t) => AThread::Made(Thread(t)),
+        Named::Fault(number) => AThread::Fault(number),
+    }
 }

@@ -19,4 +19,5 @@ returns : tie.Need-returns
 returns c = rw (c .with-cells .ensures, c .before .with-pc .ensures)
 
 pub at-its-lock-spec : {M : Type 1} → statement M
-at-its-lock-spec = tie.close (tie.spec add-with-pc with-pc-requires sub-with-cells with-cells-requires returns)
+at-its-lock-spec =
+    tie.close (tie.spec add-with-pc with-pc-requires sub-with-cells with-cells-requires returns)

@@ -1,60 +1,29 @@
 -- `endings::ends::join` meets its contract. Assumes nothing.
-use native.Mathlib.Omega.{arith}
-use borrow.Author.Needs.{sfits-of, needs}
-use borrow.Author.Tests.{eq-eqb, ne-eqb}
-use mir.Syntax.{w32}
-use mir.Val.{toZ, ofZ}
-use Rattle.machine.proofs.Equations.{carries, faults, join-is}
-use Rattle.cells.proofs.Tests.{in-below, needs-less, needs-met, within-in, within-out}
-use Rattle.threads.specs.Contract.{numberOf}
-use Rattle.threads.proofs.Checks.{looked}
-use Prim.Native.Nat.{_-_, _<_}
 use mathlib.Core.Path.{_≡_, ap, sym, _∙_}
+use native.Mathlib.Omega.{arith}
+use borrow.Author.Needs.{needs}
+use borrow.Author.Tests.{eq-eqb, ne-eqb}
 use denote.Ref.{now}
-use lib.IntN.{pos}
-use lib.ListN.{getD}
-use Rattle.machine.specs.Size.{stackAt}
-use Rattle.cells.specs.Contract.{indexOf}
-use Rattle.cells.specs.declared.index.Index.the-variants.{In}
+use Rattle.machine.proofs.Equations.{carries, faults, join-is}
+use Rattle.cells.proofs.Names.{goes-on, passed, stops}
+use Rattle.threads.specs.Contract.{threadNamed}
 use Rattle.endings.proofs.ends.join.Statement.{statement}
 use Rattle.endings.proofs.ends.join.Tie as tie
-
--- the cell on top holds the number of a thread
-made : (c : tie.After-t) → indexOf (getD (now (c .before .before .before .before .before .before .args .store)) (stackAt (c .before .before .before .before .before .before .args .size) (c .before .before .before .before .before .before .args .r .thread) (c .before .before .before .before .before .before .args .r .cells - 1)) (pos 0)) (c .before .before .before .before .before .before .args .r .threads) ≡ In (c .t .given .0 .0 .0)
-made c = looked _ _ _ _ (sfits-of {w = w32} {z = c .before .before .before .peek .result} (c .before .before .before .peek .ok)) (c .before .before .before .peek .ensures) (c .before .before .a-thread .ensures) ∙ ap numberOf (c .t .given .1)
-
-below : (c : tie.After-t) → c .t .given .0 .0 .0 < c .before .before .before .before .before .before .args .r .threads
-below c = in-below (toZ w32 (ofZ w32 (c .before .before .before .peek .result))) _ _ (c .before .before .a-thread .ensures ∙ ap numberOf (c .t .given .1))
-
-stop-requires : tie.Need-stop-requires
-stop-requires c κs = search needs
-
-returns : tie.Need-returns
-returns c n values = rw (c .stop .ensures) (faults _ n _ _ 21 (join-is _ n _ ∙ needs-less 1 _ _ (omega arith)))
-
-peek-requires : tie.Need-peek-requires
-peek-requires c κs = search needs
 
 a-thread-requires : tie.Need-a-thread-requires
 a-thread-requires c κs = search needs
 
+enum-known-number : tie.Need-enum-known-number
+enum-known-number c = search needs
+
+stop-requires : tie.Need-stop-requires
+stop-requires c κs = search needs
+
 enum-known-t : tie.Need-enum-known-t
 enum-known-t c = search needs
 
-enum-told : tie.Need-enum-told
-enum-told c = search needs
-
-stop-requires-2 : tie.Need-stop-requires-2
-stop-requires-2 c κs = search needs
-
-returns-2 : tie.Need-returns-2
-returns-2 c n values =
-    let missing = looked _ _ _ _ (sfits-of {w = w32} {z = c .before .before .before .before .peek .result} (c .before .before .before .before .peek .ok)) (c .before .before .before .before .peek .ensures) (c .before .before .before .a-thread .ensures) ∙ ap numberOf (c .before .enum-told .given .1) in
-    rw (c .stop2 .ensures)
-    (faults _ n _ _ 27 (join-is _ n _ ∙ needs-met 1 _ _ (omega arith) ∙ within-out _ _ _ _ missing))
-
 place-requires : tie.Need-place-requires
-place-requires c κs = (c .before .before .before .before .before .before .before .before .pre .1 .0, omega (arith, below (c .before .before), c .before .before .before .before .before .before .before .before .pre .1 .1 .threads))
+place-requires c κs = let there = passed _ _ _ _ _ _ _ (c .before .before .before .before .a-thread .ensures ∙ ap threadNamed (c .before .before .t .given .1)) in (c .before .before .before .before .before .before .pre .1 .0, omega (arith, there .below, c .before .before .before .before .before .before .pre .1 .1 .threads))
 
 advance-requires : tie.Need-advance-requires
 advance-requires c κs = search needs
@@ -62,46 +31,46 @@ advance-requires c κs = search needs
 same-length : tie.Need-same-length
 same-length c = search needs
 
-returns-3 : tie.Need-returns-3
-returns-3 c n values =
+returns : tie.Need-returns
+returns c n values =
     rw (c .advance .ensures)
-    (carries _ n _ _ _ (join-is _ n _ ∙ needs-met 1 _ _ (omega arith) ∙ within-in _ _ _ _ _ (made (c .before .before .before .before .before)) ∙ rw (eq-eqb _ _ (sym (c .before .before .place .ensures) ∙ c .before .if2 .taken))))
+    (carries _ n _ _ _ (join-is _ n _ ∙ goes-on _ _ _ _ _ _ _ _ (c .before .before .before .before .before .before .before .a-thread .ensures ∙ ap threadNamed (c .before .before .before .before .before .t .given .1)) ∙ rw (eq-eqb _ _ (sym (c .before .before .place .ensures) ∙ c .before .if1 .taken))))
 
 advance-requires-2 : tie.Need-advance-requires-2
 advance-requires-2 c κs = search needs
 
 queue-of-requires : tie.Need-queue-of-requires
-queue-of-requires c κs = omega (arith, below (c .before .before .before .before .before .before), c .before .before .before .before .before .before .before .before .before .before .before .before .pre .1 .1 .threads, c .before .before .before .before .before .before .before .before .before .before .before .before .pre .0 .small)
+queue-of-requires c κs = let there = passed _ _ _ _ _ _ _ (c .before .before .before .before .before .before .before .before .a-thread .ensures ∙ ap threadNamed (c .before .before .before .before .before .before .t .given .1)) in (c .before .before .before .before .before .before .before .before .before .before .pre .0 .small, omega (arith, there .below, c .before .before .before .before .before .before .before .before .before .before .pre .1 .1 .threads))
 
 block-requires : tie.Need-block-requires
-block-requires c κs = rw (c .before .advance2 .ensures) (c .before .before .before .before .before .before .before .before .before .before .before .before .before .pre .1 .0, c .before .before .before .before .before .before .before .before .before .before .before .before .before .pre .0 .thread)
+block-requires c κs = rw (c .before .advance2 .ensures) (c .before .before .before .before .before .before .before .before .before .before .before .pre .1 .0, c .before .before .before .before .before .before .before .before .before .before .before .pre .0 .thread)
+
+returns-2 : tie.Need-returns-2
+returns-2 c n values = rw (c .stop .ensures) (faults _ n _ _ _ (join-is _ n _ ∙ stops _ _ _ _ _ _ _ _ (c .before .before .before .before .a-thread .ensures ∙ ap threadNamed (c .before .before .number .given .1))))
 
 same-length-2 : tie.Need-same-length-2
 same-length-2 c = search needs
 
-returns-4 : tie.Need-returns-4
-returns-4 c n values =
-    rw (c .before .before .before .before .advance2 .ensures, c .before .before .before .queue-of .ensures) at (c .before .before .block .ensures .is (now (c .before .before .before .before .before .before .before .before .before .before .before .before .before .before .before .before .args .store)) values)
-    ∙ carries _ n _ _ _ (join-is _ n _ ∙ needs-met 1 _ _ (omega arith) ∙ within-in _ _ _ _ _ (made (c .before .before .before .before .before .before .before .before .before .before)) ∙ rw (ne-eqb _ _ (λ e. c .before .before .before .before .before .before .if2 .left (c .before .before .before .before .before .before .before .place .ensures ∙ e))))
+returns-3 : tie.Need-returns-3
+returns-3 c n values =
+    rw (c .before .before .before .before .advance2 .ensures, c .before .before .before .queue-of .ensures) at (c .before .before .block .ensures .is (now (c .before .before .before .before .before .before .before .before .before .before .before .before .before .before .args .store)) values)
+    ∙ carries _ n _ _ _ (join-is _ n _ ∙ goes-on _ _ _ _ _ _ _ _ (c .before .before .before .before .before .before .before .before .before .before .before .before .a-thread .ensures ∙ ap threadNamed (c .before .before .before .before .before .before .before .before .before .before .t .given .1)) ∙ rw (ne-eqb _ _ (λ e. c .before .before .before .before .before .before .if1 .left (c .before .before .before .before .before .before .before .place .ensures ∙ e))))
 
 pub join-spec : {M : Type 1} → statement M
 join-spec =
     tie.close
     (tie.spec
-    stop-requires
-    returns
-    peek-requires
     a-thread-requires
+    enum-known-number
+    stop-requires
     enum-known-t
-    enum-told
-    stop-requires-2
-    returns-2
     place-requires
     advance-requires
     same-length
-    returns-3
+    returns
     advance-requires-2
     queue-of-requires
     block-requires
+    returns-2
     same-length-2
-    returns-4)
+    returns-3)

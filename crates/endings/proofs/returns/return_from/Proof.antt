@@ -11,18 +11,17 @@ use mir.Facts.{toZ-ofZ}
 use Rattle.machine.specs.Size.{stackAt}
 use Rattle.machine.proofs.Equations.{carries, faults, return-is}
 use Rattle.cells.specs.Contract.{indexOf}
-use Rattle.cells.proofs.Tests.{within-in, within-out}
-use Rattle.threads.proofs.Checks.{looked}
+use Rattle.cells.proofs.Tests.{of-cell, within-in, within-out}
 use Rattle.endings.proofs.Frames.{frame-ended, frame-in, frame-low, frame-out, has-frame, no-frame}
 use Rattle.endings.proofs.returns.return_from.Statement.{statement}
 use Rattle.endings.proofs.returns.return_from.Tie as tie
 
 -- what the checks answered of the two cells of a frame
 caller : (c : tie.After-checked) → indexOf (getD (now (c .before .before .before .before .before .before .args .store)) (stackAt (c .before .before .before .before .before .before .args .size) (c .before .before .before .before .before .before .args .r .thread) (c .before .before .before .before .before .before .args .r .fp - 1)) (pos 0)) (c .before .before .before .before .before .before .args .r .fp) ≡ c .checked .result
-caller c = looked _ _ _ _ (sfits-of {w = w32} {z = c .before .before .peek .result} (c .before .before .peek .ok)) (c .before .before .peek .ensures) (sym (c .checked .ensures))
+caller c = of-cell _ {x = c .before .before .peek .result} (c .before .before .peek .ok) (c .before .before .peek .ensures) (c .checked .ensures)
 
 after : (c : tie.After-checked2) → indexOf (getD (now (c .before .before .before .before .before .before .before .before .before .before .before .before .args .store)) (stackAt (c .before .before .before .before .before .before .before .before .before .before .before .before .args .size) (c .before .before .before .before .before .before .before .before .before .before .before .before .args .r .thread) (c .before .before .before .before .before .before .before .before .before .before .before .before .args .r .fp)) (pos 0)) (c .before .before .before .before .before .before .before .before .before .before .before .before .args .n) ≡ c .checked2 .result
-after c = looked _ _ _ _ (sfits-of {w = w32} {z = c .before .peek3 .result} (c .before .peek3 .ok)) (c .before .peek3 .ensures) (sym (c .checked2 .ensures))
+after c = of-cell _ {x = c .before .peek3 .result} (c .before .peek3 .ok) (c .before .peek3 .ensures) (c .checked2 .ensures)
 
 stop-requires : tie.Need-stop-requires
 stop-requires c κs = search needs
