@@ -3,11 +3,11 @@ ghost use mathlib.Core.Path.{_≡_};
 ghost use Prim.Native.Nat.{_≤_};
 ghost use Rattle.machine.specs.WellFormed.{tablesFit, wellFormed};
 
-mod line;
+mod order;
 mod owners;
+mod places;
 mod ranges;
 mod state;
-mod threads;
 
 use machine::Registers;
 
@@ -29,10 +29,10 @@ pub fn well_formed(r: Registers, tables: &[usize], values: &[i32], size: usize) 
     if !ranges::registers_fit(r, size) {
         return false;
     }
-    if !line::line_fits(tables, size) {
+    if !order::line_fits(tables, size) {
         return false;
     }
-    threads::threads_fit(r, tables, size)
+    places::threads_fit(r, tables, size)
         && (owners::owners_fit(r, tables, size)
             && (ranges::fault_fits(r) && state::state_fits(r, tables, size)))
 }

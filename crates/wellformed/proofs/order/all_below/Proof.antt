@@ -1,12 +1,12 @@
--- `wellformed::line::all_below` meets its contract. Assumes nothing.
+-- `wellformed::order::all_below` meets its contract. Assumes nothing.
 use borrow.Author.Needs.{needs}
 use Prim.Native.Nat.{_-_}
 use mathlib.Core.Path.{_≡_, refl, sym, _∙_}
 use lib.ListN.{length, drop}
 use Rattle.wellformed.proofs.Loops.{below-more, below-not, below-end}
 use Rattle.machine.specs.WellFormed.{allBelow}
-use Rattle.wellformed.proofs.line.all_below.Statement.{statement}
-use Rattle.wellformed.proofs.line.all_below.Tie as tie
+use Rattle.wellformed.proofs.order.all_below.Statement.{statement}
+use Rattle.wellformed.proofs.order.all_below.Tie as tie
 
 abbrev Inv-loop : tie.InvT-loop
 Inv-loop bound tables from i₀ i = allBelow bound (drop from tables) ≡ allBelow bound (drop i tables)

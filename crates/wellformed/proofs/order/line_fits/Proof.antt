@@ -1,8 +1,8 @@
--- `wellformed::line::line_fits` meets its contract. Assumes nothing.
+-- `wellformed::order::line_fits` meets its contract. Assumes nothing.
 use Rattle.machine.specs.Tables.{tablesOf}
 use borrow.Author.Needs.{needs}
-use Rattle.wellformed.proofs.line.line_fits.Statement.{statement}
-use Rattle.wellformed.proofs.line.line_fits.Tie as tie
+use Rattle.wellformed.proofs.order.line_fits.Statement.{statement}
+use Rattle.wellformed.proofs.order.line_fits.Tie as tie
 
 mul-from : tie.Need-mul-from
 mul-from c = search needs

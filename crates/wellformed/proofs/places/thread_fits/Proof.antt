@@ -1,8 +1,8 @@
--- `wellformed::threads::thread_fits` meets its contract. Assumes nothing.
+-- `wellformed::places::thread_fits` meets its contract. Assumes nothing.
 use borrow.Author.Tests.{eq-eqb, ne-eqb, le-leb, lt-leb}
 use borrow.Author.Needs.{needs}
-use Rattle.wellformed.proofs.threads.thread_fits.Statement.{statement}
-use Rattle.wellformed.proofs.threads.thread_fits.Tie as tie
+use Rattle.wellformed.proofs.places.thread_fits.Statement.{statement}
+use Rattle.wellformed.proofs.places.thread_fits.Tie as tie
 
 place-requires : tie.Need-place-requires
 place-requires c κs = search needs

@@ -1,4 +1,4 @@
--- `wellformed::threads::threads_fit` meets its contract. Assumes nothing.
+-- `wellformed::places::threads_fit` meets its contract. Assumes nothing.
 use borrow.Author.Tests.{not-true, not-false}
 use native.Mathlib.Omega.{arith}
 use borrow.Author.Needs.{needs}
@@ -9,8 +9,8 @@ use Rattle.wellformed.proofs.Loops.{every-all, every-more, every-none, 
 use Rattle.machine.specs.Lists.{every}
 use Rattle.machine.specs.Tables.{tablesOf}
 use Rattle.machine.specs.WellFormed.{threadFits}
-use Rattle.wellformed.proofs.threads.threads_fit.Statement.{statement}
-use Rattle.wellformed.proofs.threads.threads_fit.Tie as tie
+use Rattle.wellformed.proofs.places.threads_fit.Statement.{statement}
+use Rattle.wellformed.proofs.places.threads_fit.Tie as tie
 
 abbrev Inv-loop : tie.InvT-loop
 Inv-loop r tables size t₀ t = (t ≤ size) × (every t (threadFits size r (tablesOf size tables)) ≡ true)

@@ -1,4 +1,4 @@
--- `wellformed::line::each_once` meets its contract. Assumes nothing.
+-- `wellformed::order::each_once` meets its contract. Assumes nothing.
 use borrow.Author.Tests.{eq-eqb, ne-eqb}
 use native.Mathlib.Omega.{arith}
 use borrow.Author.Needs.{needs}
@@ -9,8 +9,8 @@ use lib.Dec.{eqb}
 use lib.ListN.{drop}
 use Rattle.machine.specs.Lists.{count, every}
 use Rattle.wellformed.proofs.Loops.{every-all, every-more, every-none, every-stop}
-use Rattle.wellformed.proofs.line.each_once.Statement.{statement}
-use Rattle.wellformed.proofs.line.each_once.Tie as tie
+use Rattle.wellformed.proofs.order.each_once.Statement.{statement}
+use Rattle.wellformed.proofs.order.each_once.Tie as tie
 
 abbrev Inv-loop : tie.InvT-loop
 Inv-loop size tables from t₀ t = (t ≤ size) × (every t (λ k. eqb (count k (drop from tables)) 1) ≡ true)

@@ -1,4 +1,4 @@
--- `wellformed::line::occurrences` meets its contract. Assumes nothing.
+-- `wellformed::order::occurrences` meets its contract. Assumes nothing.
 use denote.Ref.{now}
 use native.Mathlib.Omega.{arith}
 use borrow.Author.Needs.{needs}
@@ -9,8 +9,8 @@ use Rattle.wellformed.proofs.Loops.{count-more, count-end}
 use mathlib.Core.Logic.{⊎-elim}
 use Rattle.machine.specs.Lists.{count}
 use Rattle.machine.proofs.Lists.{one-if-is, one-if-other}
-use Rattle.wellformed.proofs.line.occurrences.Statement.{statement}
-use Rattle.wellformed.proofs.line.occurrences.Tie as tie
+use Rattle.wellformed.proofs.order.occurrences.Statement.{statement}
+use Rattle.wellformed.proofs.order.occurrences.Tie as tie
 
 abbrev Inv-loop : tie.InvT-loop
 Inv-loop t tables from n₀ i₀ n i = (n ≤ i) × (count t (drop from tables) ≡ n + count t (drop i tables))

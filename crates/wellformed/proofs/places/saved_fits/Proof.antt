@@ -1,7 +1,7 @@
--- `wellformed::threads::saved_fits` meets its contract. Assumes nothing.
+-- `wellformed::places::saved_fits` meets its contract. Assumes nothing.
 use borrow.Author.Needs.{needs}
-use Rattle.wellformed.proofs.threads.saved_fits.Statement.{statement}
-use Rattle.wellformed.proofs.threads.saved_fits.Tie as tie
+use Rattle.wellformed.proofs.places.saved_fits.Statement.{statement}
+use Rattle.wellformed.proofs.places.saved_fits.Tie as tie
 
 saved-pc-requires : tie.Need-saved-pc-requires
 saved-pc-requires c κs = search needs

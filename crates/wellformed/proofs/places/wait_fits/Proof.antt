@@ -1,8 +1,8 @@
--- `wellformed::threads::wait_fits` meets its contract. Assumes nothing.
+-- `wellformed::places::wait_fits` meets its contract. Assumes nothing.
 use borrow.Author.Tests.{lt-ltb, le-ltb}
 use borrow.Author.Needs.{needs}
-use Rattle.wellformed.proofs.threads.wait_fits.Statement.{statement}
-use Rattle.wellformed.proofs.threads.wait_fits.Tie as tie
+use Rattle.wellformed.proofs.places.wait_fits.Statement.{statement}
+use Rattle.wellformed.proofs.places.wait_fits.Tie as tie
 
 mul-if1 : tie.Need-mul-if1
 mul-if1 c = search needs
