@@ -1,5 +1,5 @@
 -- Laws of the header's tests: what holds of an image that passes them, and what acceptance says. Assumes nothing.
-use Prim.Native.Nat.{ℕ, _+_, _*_, _≤_, _<_}
+use Prim.Native.Nat.{ℕ, _+_, _*_, _≤_}
 use mathlib.Core.Path.{_≡_, refl, ap}
 use mathlib.Core.Bool.{Bool, true, false, cond, not, _||_}
 use mathlib.Core.List.{List}
@@ -8,12 +8,10 @@ use lib.Dec.{ltb, eqb}
 use lib.IntN.{ℤ}
 use lib.ListN.{length, drop}
 use borrow.Author.Tests.{ltb-false, eqb-true, not-false, le-ltb, eq-eqb}
-use Rattle.instruction.specs.Bytes.{byteOf}
 use Rattle.card.specs.Code.{firstBad, wordsOf}
-use Rattle.card.specs.Image.{Headed, cellsOf, codeOf, countOf, followingOf, versionOf, lengthWrong, versionWrong, outOfRange, sizesWrong, imageSize, headerSize, lastOf, placed, readCode, readOf}
+use Rattle.card.specs.Image.{Headed, cellsOf, codeOf, countOf, followingOf, versionOf, lengthWrong, versionWrong, outOfRange, sizesWrong, headerSize, lastOf, placed, readCode, readOf}
 use Rattle.card.specs.declared.scan.Scan.{Scan}
 use Rattle.card.specs.declared.scan.Scan.the-variants.{Fine, Bad}
-use Rattle.card.specs.declared.reader.Reading.{Reading}
 use Rattle.card.specs.declared.reader.Reading.the-variants.{Accepted, Refused}
 use Rattle.card.proofs.Search.{found-number}
 

@@ -1,16 +1,14 @@
 -- Reader and writer undo each other. Assumes nothing.
 use Prim.Native.Nat.{ℕ, zero, suc, _+_, _*_, _/_, _%_, _<_, _≤_}
 use mathlib.Core.Path.{_≡_, refl, sym, ap, _∙_}
-use mathlib.Core.Bool.{Bool, true, false}
 use mathlib.Core.List.{List, [], _∷_, _++_}
 use native.Mathlib.Omega.{arith}
-use lib.ListN.{length, getD, take, drop, length-drop}
+use lib.ListN.{length, getD, drop, length-drop}
 use lib.Seq.{drop-cons, getD-drop, take-at}
-use borrow.Author.Tests.{lt-ltb, le-ltb, eq-eqb, ne-eqb}
 use Rattle.instruction.specs.Bytes.{halfAt, wordAt, halfBytes, wordBytes}
 use Rattle.card.specs.Code.{firstBad, wordsOf}
 use Rattle.card.specs.Image.{cellsOf, codeOf, countOf, followingOf, imageSize, lastOf, readOf}
-use Rattle.card.specs.Writing.{headerOf, imageOf, wordsBytes, writeOf}
+use Rattle.card.specs.Writing.{imageOf, wordsBytes, writeOf}
 use Rattle.card.specs.declared.reader.Reading.the-variants.{Accepted}
 use Rattle.card.specs.declared.scan.Scan.the-variants.{Fine}
 use Rattle.card.specs.declared.writer.Writing.the-variants.{Written}

@@ -1,7 +1,7 @@
 -- Laws of the search for the first bad instruction, for a loop that has come to index i: it finds what the whole search finds.
 -- Assumes nothing.
 use Prim.Native.Nat.{ℕ, suc, _+_, _≤_, _<_}
-use mathlib.Core.Path.{_≡_, refl, sym, ap, _∙_}
+use mathlib.Core.Path.{_≡_}
 use mathlib.Core.List.{List, [], _∷_}
 use native.Mathlib.Numerals.{add-one}
 use native.Mathlib.Omega.{arith}
@@ -12,7 +12,6 @@ use Rattle.instruction.specs.Rules.{checkOf}
 use Rattle.instruction.specs.declared.Verdict.{Verdict}
 use Rattle.instruction.specs.declared.Verdict.the-variants as verdict
 use Rattle.card.specs.Code.{firstBad, orElse, scanOf}
-use Rattle.card.specs.declared.scan.Scan.{Scan}
 use Rattle.card.specs.declared.scan.Scan.the-variants.{Fine, Bad}
 
 -- what the search finds lies in the list

@@ -1,10 +1,10 @@
 -- Laws of bytes stored one after the other, and of a list of words as bytes. Assumes nothing.
 use Prim.Native.Nat.{ℕ, suc, _+_, _*_, _<_, _≤_}
 use mathlib.Core.Path.{_≡_, refl, sym, ap, _∙_}
-use mathlib.Core.List.{List, [], _∷_, _++_, append-nil}
+use mathlib.Core.List.{List, [], _∷_, _++_}
 use native.Mathlib.Numerals.{add-one}
 use native.Mathlib.Omega.{arith}
-use lib.ListN.{length, getD, set, drop, length-append, drop-of-length-le}
+use lib.ListN.{length, getD, set, drop, drop-of-length-le}
 use lib.Seq.{sets, drop-cons, sets-eq}
 use Rattle.instruction.specs.Bytes.{wordBytes}
 use Rattle.card.specs.Writing.{headerOf, imageOf, wordsBytes}

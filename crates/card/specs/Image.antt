@@ -1,6 +1,6 @@
 -- "The card image", sentence by sentence, with the numbers 1 to 5 and their places.
 use Prim.Native.Nat.{ℕ, _+_, _*_, _≤_}
-use mathlib.Core.Bool.{Bool, true, false, cond, not, _||_}
+use mathlib.Core.Bool.{Bool, cond, not, _||_}
 use mathlib.Core.List.{List, []}
 use mathlib.Core.Path.{_≡_, refl}
 use denote.Ref.{RefT, now, ptr}

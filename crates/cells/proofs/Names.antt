@@ -1,6 +1,6 @@
 -- What follows from a number that was found on the stack. Assumes nothing.
 use Prim.Native.Nat.{ℕ, _-_, _<_, _≤_}
-use mathlib.Core.Path.{_≡_, refl, ap, sym, _∙_}
+use mathlib.Core.Path.{_≡_, refl, ap, _∙_}
 use mathlib.Core.Bool.{Bool, true, false, cond}
 use mathlib.Core.List.{List}
 use native.Mathlib.Omega.{arith}
@@ -12,7 +12,6 @@ use Rattle.cells.specs.Contract.{indexOf}
 use Rattle.cells.specs.Top.{named, numberAt}
 use Rattle.cells.specs.declared.index.Index.{Index}
 use Rattle.cells.specs.declared.index.Index.the-variants.{In, Out}
-use Rattle.cells.specs.declared.top.Named.{Named}
 use Rattle.cells.specs.declared.top.Named.the-variants.{Number, Fault}
 use Rattle.cells.proofs.Tests.{in-below, needs-less, needs-met, within-in, within-out}
 use Rattle.machine.specs.Execution.{Outcome, fault, needs, within}

@@ -1,5 +1,5 @@
 -- What the instructions on cells ask, and what they promise: the state that the definitions give, whatever else the machine holds.
-use Prim.Native.Nat.{ℕ, _+_, _*_, _<_, _≤_}
+use Prim.Native.Nat.{ℕ, _*_, _<_, _≤_}
 use mathlib.Core.Bool.{cond}
 use mathlib.Core.List.{List}
 use mathlib.Core.Path.{_≡_}

@@ -15,7 +15,7 @@ use Rattle.engine.specs.Contract.{Carded, Lasts, boxed}
 use Rattle.engine.specs.declared.progress.Progress.{Progress}
 use Rattle.machine.proofs.Runs.{run-done, run-misfit, run-unformed, run-unread}
 use Rattle.machine.proofs.Slices.{slice-tables}
-use Rattle.machine.specs.Calls.{Called, answerOf, refused, runCall}
+use Rattle.machine.specs.Calls.{answerOf, refused, runCall}
 use Rattle.machine.specs.State.{State}
 use Rattle.machine.specs.Tables.{sliceOf}
 use Rattle.machine.specs.WellFormed.{wellFormed}

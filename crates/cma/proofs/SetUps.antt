@@ -1,19 +1,16 @@
 -- What setting up gives, by the test that decides. Assumes nothing.
 use Prim.Native.Nat.{ℕ, _*_}
-use mathlib.Core.Path.{_≡_, refl, sym, ap, _∙_}
-use mathlib.Core.List.{List, []}
+use mathlib.Core.Path.{_≡_, refl}
+use mathlib.Core.List.{List}
 use mathlib.Core.Logic.{_≢_}
 use lib.IntN.{ℤ}
 use lib.ListN.{length}
 use borrow.Author.Tests.{eq-eqb, ne-eqb}
 use Rattle.card.specs.Image.{readOf}
-use Rattle.card.specs.declared.reader.Reading.{Reading}
 use Rattle.card.specs.declared.reader.Reading.the-variants as reading
 use Rattle.engine.specs.Contract.{boxed}
-use Rattle.machine.specs.Calls.{Box, Called, boxOf, refusedSetUp, setUp}
+use Rattle.machine.specs.Calls.{refusedSetUp, setUp}
 use Rattle.machine.specs.Registers.{zeros}
-use Rattle.machine.specs.State.{start}
-use Rattle.machine.specs.Tables.{sliceOf}
 use Rattle.machine.specs.declared.answers.Answer.the-variants.{Running}
 use Rattle.machine.specs.declared.registers.Registers.{Registers}
 use Rattle.setup.specs.Start.{Started}

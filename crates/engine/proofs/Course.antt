@@ -1,8 +1,8 @@
 -- A run under way: what was carried out so far, and what is left to do. Assumes nothing.
 use Prim.Native.Nat.{ℕ, suc, _+_, _-_, _<_, _≤_}
-use mathlib.Core.Path.{_≡_, refl, sym, ap, subst, _∙_}
-use mathlib.Core.Bool.{true, false, cond}
-use mathlib.Core.List.{List, [], _∷_, _++_, append-assoc, append-nil}
+use mathlib.Core.Path.{_≡_, refl, sym, ap, _∙_}
+use mathlib.Core.Bool.{cond}
+use mathlib.Core.List.{List, [], _++_, append-assoc, append-nil}
 use mathlib.Core.Logic.{_≢_}
 use native.Mathlib.Omega.{arith}
 use lib.Dec.{eqb}
@@ -17,12 +17,11 @@ use Rattle.machine.proofs.Laws.{bookFor, held-sound, sound-held}
 use Rattle.machine.proofs.Runs.{run-more, run-stopped}
 use Rattle.machine.proofs.Steady.{Right}
 use Rattle.machine.proofs.Steps.{carried-count, carried-right}
-use Rattle.machine.specs.Book.{Book, Entry, bookOf}
+use Rattle.machine.specs.Book.{bookOf}
 use Rattle.machine.specs.Laws.{Sound}
-use Rattle.machine.specs.Registers.{faulted, isRunning, running}
+use Rattle.machine.specs.Registers.{faulted, running}
 use Rattle.machine.specs.State.{State}
-use Rattle.machine.specs.Step.{Ran, carried, countOf, joined, run, still}
-use Rattle.machine.specs.Tables.{tablesOf}
+use Rattle.machine.specs.Step.{carried, countOf, joined, run, still}
 use Rattle.machine.specs.declared.registers.Registers.{Registers}
 use Rattle.cells.specs.Contract.{at}
 

@@ -8,8 +8,7 @@ use lib.IntN.{ℤ}
 use lib.ListN.{length}
 use Rattle.card.specs.Code.{instructionAt, wordsOf}
 use Rattle.cells.specs.Contract.{Able, DoesIn}
-use Rattle.engine.specs.Contract.{Carded, Carries, Housed, Stretched, Under, boxed, stateAt}
-use Rattle.engine.specs.declared.progress.Progress.{Progress}
+use Rattle.engine.specs.Contract.{Carded, Carries, Housed, Under, boxed, stateAt}
 use Rattle.engine.proofs.Course.{begun, counted, faulted-at, stays-sound, tells-done, tells-fault}
 use Rattle.engine.proofs.Working.{at-pc, working}
 use Rattle.machine.specs.Instructions.{instructionOf}

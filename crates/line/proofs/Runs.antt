@@ -1,5 +1,5 @@
 -- The runner's two calls, set-up and run, as one, and the line that follows them. Assumes nothing.
-use Prim.Native.Nat.{ℕ, _+_, _<_, _≤_}
+use Prim.Native.Nat.{ℕ, _<_, _≤_}
 use mathlib.Core.Bool.{Bool, true, false}
 use mathlib.Core.List.{List}
 use mathlib.Core.Path.{_≡_, refl, sym, ap, _∙_}
@@ -18,7 +18,6 @@ use Rattle.machine.specs.Size.{full}
 use Rattle.machine.specs.declared.registers.Registers.{Registers}
 use Rattle.text.specs.Lines.{Puts}
 use Rattle.line.specs.Line.{Prints, PutsLine, room}
-use Rattle.line.specs.declared.answers.Line.{Line}
 use Rattle.line.specs.declared.answers.Line.the-variants.{Written, NoRoom}
 
 -- a refused set-up is the whole of it

@@ -1,23 +1,22 @@
 -- The book agrees with the tables: who lives, and for each mutex the names left are the owner and those waiting. Laws of each change.
 -- Assumes nothing.
-use Prim.Native.Nat.{ℕ, zero, suc, _+_, _*_, _<_, _≤_}
+use Prim.Native.Nat.{ℕ, _+_, _<_, _≤_}
 use mathlib.Core.Path.{_≡_, refl, sym, ap, subst, _∙_}
-use mathlib.Core.Bool.{Bool, true, false, cond, not as negate, _&&_, _||_}
-use mathlib.Core.List.{List, [], _∷_, _++_, append-assoc, append-nil}
+use mathlib.Core.Bool.{true, cond}
+use mathlib.Core.List.{List, [], _∷_, _++_, append-assoc}
 use mathlib.Core.Logic.{_≢_}
-use native.Mathlib.Numerals.{add-one}
 use native.Mathlib.Omega.{arith}
 use lib.Dec.{eqb, ltb}
-use lib.IntN.{ℤ, pos, negsuc}
+use lib.IntN.{pos}
 use lib.ListN.{length, drop, length-append, length-drop}
 use lib.Seq.{drop-append-le, drop-drop}
-use borrow.Author.Tests.{eq-eqb, ne-eqb, eqb-true, eqb-false, lt-ltb, le-ltb}
-use Rattle.machine.specs.Book.{Book, Entry, Event, blank, fed, namesLeft, locks, unlocks, creates, ends, other}
+use borrow.Author.Tests.{eq-eqb, ne-eqb, lt-ltb}
+use Rattle.machine.specs.Book.{Book, Entry, Event, fed, namesLeft, locks, unlocks, creates, ends}
 use Rattle.machine.specs.Demand.{holderOf}
 use Rattle.machine.specs.Lists.{count}
 use Rattle.machine.specs.Size.{mutexLimit}
 use Rattle.machine.specs.Tables.{Tables, atMutex, ended, lives, owned, ownerOf, placeOf, queue, ready, sent}
-use Rattle.machine.proofs.Lists.{cases, same-or-not}
+use Rattle.machine.proofs.Lists.{same-or-not}
 use Rattle.machine.proofs.Queues.{owned-here, owned-line, owned-places, owned-queue, owned-there, queue-joined, queue-kept, queue-left, sent-here, sent-owner, sent-there}
 
 pub record Booked (size : ℕ) (tables : Tables) (book : Book) : Type 0 where

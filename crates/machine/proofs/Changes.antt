@@ -1,24 +1,22 @@
 -- Each change of the tables that instructions are made of keeps them tidy and the book right. Assumes nothing.
-use Prim.Native.Nat.{ℕ, zero, suc, _+_, _*_, _<_, _≤_}
-use mathlib.Core.Path.{_≡_, refl, sym, ap, subst, _∙_}
-use mathlib.Core.Bool.{Bool, true, false}
-use mathlib.Core.List.{List, [], _∷_, _++_}
-use mathlib.Core.Logic.{_⊎_, _≢_, inl, inr, ⊎-elim}
+use Prim.Native.Nat.{ℕ, _+_, _<_, _≤_}
+use mathlib.Core.Path.{_≡_, refl, sym, subst, _∙_}
+use mathlib.Core.List.{List, [], _∷_}
+use mathlib.Core.Logic.{_≢_, inl, inr}
 use native.Mathlib.Omega.{arith}
-use lib.Dec.{ltb}
 use lib.IntN.{pos}
 use lib.ListN.{length, getD}
-use borrow.Author.Tests.{eq-eqb, ne-eqb, lt-ltb, le-ltb}
-use Rattle.machine.specs.Book.{Book, Entry, Event, fed, locks, unlocks, creates}
+use borrow.Author.Tests.{lt-ltb}
+use Rattle.machine.specs.Book.{Book, fed, locks, unlocks, creates}
 use Rattle.machine.specs.Book as event
 use Rattle.machine.specs.Lists.{count}
-use Rattle.machine.specs.Plain.{Counts, Frame, Line, Placed, Tidy}
+use Rattle.machine.specs.Plain.{Frame, Tidy}
 use Rattle.machine.specs.Size.{conditionLimit, mutexLimit}
-use Rattle.machine.specs.Tables.{Tables, active, allReady, atCondition, atEnd, atMutex, ended, first, give, lives, owned, ownerOf, placeOf, queue, ready, saved, sent, unlocked, unmade, wakeAll, wakeFirst, wakeOne}
+use Rattle.machine.specs.Tables.{Tables, active, allReady, atCondition, atEnd, atMutex, ended, owned, ownerOf, placeOf, queue, ready, saved, sent, unlocked, unmade, wakeAll, wakeFirst}
 use Rattle.machine.proofs.Booked.{Booked, booked-ended, booked-freed, booked-given, booked-made, booked-same, booked-sent, booked-taken, booked-waits, entry}
 use Rattle.machine.proofs.Lists.{less-or-not, same-or-not}
-use Rattle.machine.proofs.Moves.{Kempt, May, moved, owner-set}
-use Rattle.machine.proofs.Queues.{Sizes, empty-queue, first-at, first-in-line, first-nobody, first-waiter, no-queue, owned-here, owned-line, owned-places, owned-queue, owned-saved, owned-sizes, owned-there, queue-left, saved-depth, saved-frame, saved-line, saved-other, saved-owners, saved-pc, saved-places, saved-queue, saved-sizes, sent-here, sent-owner, sent-there}
+use Rattle.machine.proofs.Moves.{Kempt, moved, owner-set}
+use Rattle.machine.proofs.Queues.{empty-queue, first-at, first-in-line, first-nobody, first-waiter, no-queue, owned-places, queue-left, saved-depth, saved-frame, saved-line, saved-other, saved-owners, saved-pc, saved-places, saved-queue, saved-sizes}
 
 -- tables that are kept right, and the book beside them
 pub record Both (size threads mutexes conditions run : ℕ) (tables : Tables) (book : Book) : Type 0 where

@@ -1,23 +1,21 @@
 -- Demand 3: one claim about any list of calls. Assumes nothing.
-use Prim.Native.Nat.{ℕ, zero, suc, _+_, _<_, _≤_}
-use mathlib.Core.Path.{_≡_, refl, sym, ap, subst, _∙_}
-use mathlib.Core.List.{List, [], _∷_, _++_}
-use mathlib.Core.Logic.{_⊎_, _≢_, inl, inr}
+use Prim.Native.Nat.{ℕ, _≤_}
+use mathlib.Core.Path.{_≡_, sym, ap, _∙_}
+use mathlib.Core.List.{List, [], _∷_}
+use mathlib.Core.Logic.{inl, inr}
 use native.Mathlib.Omega.{arith}
 use lib.Dec.{lit≤}
-use lib.ListN.{length}
 use Rattle.card.proofs.Header.{accepts, refused-number}
 use Rattle.card.specs.Image.{readOf}
 use Rattle.card.specs.declared.reader.Reading.the-variants as reading
 use Rattle.machine.specs.Book.{Book, blank, bookOf}
-use Rattle.machine.specs.Calls.{Box, boxOf, refused, setUp, stateOf}
-use Rattle.machine.specs.Demand.{Call, Claim, Demand3, DemandFor, Each, Fair, Fitting, NotDamaged, callOf, imageOf, played}
+use Rattle.machine.specs.Calls.{Box, boxOf, stateOf}
+use Rattle.machine.specs.Demand.{Call, Demand3, DemandFor, Each, Fitting, NotDamaged, callOf, imageOf, played}
 use Rattle.machine.specs.Size.{full}
 use Rattle.machine.specs.State.{start}
-use Rattle.machine.specs.declared.answers.Answer.{Answer}
 use Rattle.machine.specs.declared.answers.Answer.the-variants.{Refused}
 use Rattle.machine.proofs.Fairness.{fair}
-use Rattle.machine.proofs.Held.{Held, Went, card-call, held, refused-call, set-up}
+use Rattle.machine.proofs.Held.{Held, card-call, held, refused-call, set-up}
 use Rattle.machine.proofs.Start.{start-right}
 use Rattle.machine.proofs.Steps.{book-append}
 

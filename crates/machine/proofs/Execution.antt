@@ -1,33 +1,32 @@
 -- Each instruction leaves the machine right, and the book beside it, or is a fault of the table. Assumes nothing.
-use Prim.Native.Nat.{ℕ, zero, suc, _+_, _-_, _*_, _<_, _≤_}
-use mathlib.Core.Path.{_≡_, refl, sym, ap, subst, _∙_}
+use Prim.Native.Nat.{ℕ, _+_, _-_, _<_, _≤_}
+use mathlib.Core.Path.{_≡_, refl, sym, _∙_}
 use mathlib.Core.Bool.{Bool, true, false, cond, _&&_}
-use mathlib.Core.List.{List, [], _∷_}
+use mathlib.Core.List.{List}
 use mathlib.Core.Logic.{_≢_}
 use native.Mathlib.Omega.{arith}
 use lib.Dec.{eqb, leb, ltb, lit≤}
-use lib.IntN.{ℤ, pos, negsuc, natAbs, negℤ, _+ℤ_, _-ℤ_, _*ℤ_}
+use lib.IntN.{ℤ, pos, negsuc}
 use lib.ListN.{length, getD, set, replicate, length-set}
-use lib.Seq.{sets, getD-set-same, length-sets}
-use lib.Signed.{leZ, ltZ, quotZ, remZ}
-use borrow.Author.Tests.{eqb-true, eqb-false, leb-true, ltb-true, ltb-false, eq-eqb, ne-eqb}
+use lib.Seq.{getD-set-same, length-sets}
+use borrow.Author.Tests.{eqb-true, eqb-false, leb-true, ltb-true}
 use Rattle.machine.specs.Book.{Book, eventOf, fed}
 use Rattle.machine.specs.Book as event
-use Rattle.machine.specs.Execution.{Outcome, done, eqZ, exec, fault, frame, fresh, owns}
+use Rattle.machine.specs.Execution.{Outcome, eqZ, exec, fault, frame, fresh, owns}
 use Rattle.machine.specs.Instructions.{Instruction}
 use Rattle.machine.specs.Instructions as instr
-use Rattle.machine.specs.Plain.{Frame, Mode, Fault}
+use Rattle.machine.specs.Plain.{Frame}
 use Rattle.machine.specs.Registers.{withPc, withCells, withFp, withFree, withMade}
 use Rattle.machine.specs.Size.{conditionLimit, mutexLimit, shared, stackAt, storeSize}
-use Rattle.machine.specs.State.{State, below, cell, left, minusOne, newCells, newFp, newStack, next, top, withRegs, withStore, withTables}
-use Rattle.machine.specs.Tables.{Tables, atCondition, atEnd, atMutex, ended, ownerOf, placeOf, ready, saved, sent, unlocked}
+use Rattle.machine.specs.State.{State, below, cell, minusOne, newCells, newFp, newStack, top, withRegs, withStore}
+use Rattle.machine.specs.Tables.{Tables, atCondition, atEnd, atMutex, ended, ownerOf, placeOf, ready, saved, sent}
 use Rattle.machine.proofs.Booked.{entry}
 use Rattle.machine.proofs.Changes.{Both, gives, makes, saves, takes, wakes-all, wakes-first}
 use Rattle.machine.proofs.Every.{and-first, and-second}
 use Rattle.machine.proofs.Moves.{counts-grow}
 use Rattle.machine.proofs.Outcomes.{Ends, ends-cond, ends-divides, ends-fits, ends-needs, ends-rooms, ends-within}
 use Rattle.machine.proofs.Queues.{saved-depth, saved-frame, saved-pc}
-use Rattle.machine.proofs.Steady.{Landed, Marked, Right, Runs, Steady, active-landed, blocked-right, ends-right, lock-blocked, wait-right}
+use Rattle.machine.proofs.Steady.{Landed, Runs, active-landed, blocked-right, ends-right, lock-blocked, wait-right}
 use Rattle.machine.proofs.Targets.{targetOf}
 
 module _ (size n : ℕ) (s : State) (book : Book) (y : Runs size s book) (short : n ≤ 4096) where

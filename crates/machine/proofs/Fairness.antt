@@ -1,20 +1,18 @@
 -- A right machine is fair: each living thread is in exactly one place, and each mutex is held and awaited in order. Assumes nothing.
 use Prim.Native.Nat.{ℕ, zero, suc, _+_, _-_, _*_, _<_, _≤_}
 use mathlib.Core.Path.{_≡_, refl, sym, ap, _∙_}
-use mathlib.Core.Bool.{Bool, true, false, cond}
-use mathlib.Core.List.{List, [], _∷_, _++_}
+use mathlib.Core.Bool.{cond}
+use mathlib.Core.List.{List, [], _∷_}
 use mathlib.Core.Logic.{_≢_}
 use native.Mathlib.Omega.{arith}
-use lib.Dec.{eqb, ltb}
-use lib.ListN.{length, getD, List·getD-eq-default}
+use lib.ListN.{List·getD-eq-default}
 use borrow.Author.Tests.{eq-eqb, ne-eqb, lt-ltb, le-ltb}
 use Rattle.machine.specs.Book.{Book}
 use Rattle.machine.specs.Demand.{Fair, placesOf, runnerOf, waitsIn}
 use Rattle.machine.specs.Lists.{count}
-use Rattle.machine.specs.Plain.{Placed}
 use Rattle.machine.specs.Size.{mutexLimit}
 use Rattle.machine.specs.State.{State}
-use Rattle.machine.specs.Tables.{Tables, active, atEnd, atMutex, ended, ownerOf, placeOf, queue, ready, unmade}
+use Rattle.machine.specs.Tables.{Tables, active, atMutex, ended, ownerOf, placeOf, queue, ready}
 use Rattle.machine.proofs.Changes.{head-below}
 use Rattle.machine.proofs.Lists.{count-cons, count-nil, less-or-not, one-if-other, one-if-same, same-or-not}
 use Rattle.machine.proofs.Queues.{count-queue, count-queued, first-at}

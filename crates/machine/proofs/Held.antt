@@ -1,37 +1,34 @@
 -- A box that calls leave: right, and of the right sizes. A call with the card goes on, and one with a refused image changes nothing.
 -- Assumes nothing.
-use Prim.Native.Nat.{ℕ, zero, suc, _+_, _*_, _<_, _≤_}
-use mathlib.Core.Path.{_≡_, refl, sym, ap, subst, _∙_}
-use mathlib.Core.Bool.{Bool, true, false, cond, not as negate, _&&_}
-use mathlib.Core.List.{List, [], _∷_, _++_}
+use Prim.Native.Nat.{ℕ, _*_, _≤_}
+use mathlib.Core.Path.{_≡_}
+use mathlib.Core.Bool.{Bool, true, false, cond}
+use mathlib.Core.List.{List}
 use mathlib.Core.Logic.{_≢_}
 use native.Mathlib.Omega.{arith}
 use lib.Dec.{eqb}
 use lib.ListN.{length, getD, drop, length-drop}
-use borrow.Author.Tests.{eq-eqb, eqb-true}
-use Rattle.card.proofs.Header.{Accepts, accepts, code-part}
+use borrow.Author.Tests.{eq-eqb}
+use Rattle.card.proofs.Header.{accepts, code-part}
 use Rattle.card.proofs.Words.{count as count-words}
 use Rattle.card.specs.Code.{firstBad, wordsOf}
 use Rattle.card.specs.Image.{countOf, lastOf, readOf}
 use Rattle.card.specs.declared.scan.Scan.the-variants as scan
-use Rattle.card.specs.declared.reader.Reading.{Reading}
 use Rattle.card.specs.declared.reader.Reading.the-variants as reading
 use Rattle.machine.specs.Book.{Book, bookOf}
-use Rattle.machine.specs.Calls.{Box, Called, accepted, answerOf, boxOf, cardOf, judged, ranOf, refused, runCall, setUp, setUpOf, stateOf, stepCall, storeFits}
+use Rattle.machine.specs.Calls.{Box, Called, accepted, answerOf, boxOf, cardOf, ranOf, refused, runCall, setUp, stateOf, stepCall, storeFits}
 use Rattle.machine.specs.Registers.{faulted, running, stuck}
-use Rattle.machine.specs.declared.answers.Answer.{Answer}
 use Rattle.machine.specs.declared.answers.Answer.the-variants.{Faulted, Halted, Refused, Running, Stuck}
 use Rattle.machine.specs.Demand.{Call, callOf, imageOf, stepOn, runOn}
 use Rattle.machine.specs.Plain.{Formed}
 use Rattle.machine.specs.Size.{shared, storeSize, tablesSize, valuesSize}
 use Rattle.machine.specs.State.{State, start}
 use Rattle.machine.specs.Step.{Ran, run, step}
-use Rattle.machine.specs.Tables.{Tables, sliceOf, tablesOf}
-use Rattle.machine.specs.WellFormed.{formed, tablesFit, wellFormed}
-use Rattle.machine.proofs.Every.{and-true, true-and}
-use Rattle.machine.proofs.Plain.{plain, tested}
-use Rattle.machine.proofs.Slices.{length-slice, slice-sizes, slice-tables, tables-slice}
-use Rattle.machine.proofs.Start.{start-right}
+use Rattle.machine.specs.Tables.{tablesOf}
+use Rattle.machine.specs.WellFormed.{tablesFit, wellFormed}
+use Rattle.machine.proofs.Every.{true-and}
+use Rattle.machine.proofs.Plain.{tested}
+use Rattle.machine.proofs.Slices.{length-slice, tables-slice}
 use Rattle.machine.proofs.Steady.{Right}
 use Rattle.machine.proofs.Steps.{After, run-right, step-right}
 use Rattle.machine.proofs.Targets.{Card, all-fine, opcode-known, operand-allowed, target-in}

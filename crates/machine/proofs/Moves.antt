@@ -1,16 +1,14 @@
 -- The tables stay tidy over each move of a thread, a mutex's new owner, a save, and more counts. Assumes nothing.
-use Prim.Native.Nat.{ℕ, suc, _+_, _*_, _<_, _≤_}
-use mathlib.Core.Path.{_≡_, refl, sym, ap, subst, _∙_}
-use mathlib.Core.List.{List, [], _∷_, _++_}
-use mathlib.Core.Logic.{_⊎_, _≢_, inl, inr, ⊎-elim}
+use Prim.Native.Nat.{ℕ, _<_, _≤_}
+use mathlib.Core.Path.{_≡_, sym, ap, subst, _∙_}
+use mathlib.Core.Logic.{_⊎_, _≢_, ⊎-elim}
 use native.Mathlib.Omega.{arith}
-use lib.ListN.{length, getD}
-use Rattle.machine.specs.Lists.{count}
-use Rattle.machine.specs.Plain.{Counts, Frame, Line, Placed, Tidy}
+use lib.ListN.{getD}
+use Rattle.machine.specs.Plain.{Frame, Placed, Tidy}
 use Rattle.machine.specs.Size.{conditionLimit, mutexLimit}
-use Rattle.machine.specs.Tables.{Tables, active, atCondition, atEnd, atMutex, ended, owned, ownerOf, placeOf, queue, ready, saved, sent, unmade}
+use Rattle.machine.specs.Tables.{Tables, active, atCondition, atEnd, atMutex, ended, owned, ownerOf, placeOf, ready, sent}
 use Rattle.machine.proofs.Lists.{same-or-not}
-use Rattle.machine.proofs.Queues.{Sizes, empty-queue, first-at, first-in-line, owned-here, owned-line, owned-places, owned-saved, owned-sizes, owned-there, saved-depth, saved-frame, saved-line, saved-other, saved-owners, saved-pc, saved-places, saved-sizes, sent-count, sent-here, sent-owner, sent-saved, sent-sizes, sent-there}
+use Rattle.machine.proofs.Queues.{Sizes, owned-here, owned-line, owned-places, owned-saved, owned-sizes, owned-there, sent-count, sent-here, sent-owner, sent-saved, sent-sizes, sent-there}
 
 -- tables of the box's sizes, and tidy
 pub record Kempt (size threads mutexes conditions run : ℕ) (tables : Tables) : Type 0 where

@@ -1,15 +1,13 @@
 -- Laws of the tests that instructions are made of: an outcome is right if each way out of it is. Assumes nothing.
-use Prim.Native.Nat.{ℕ, zero, suc, _+_, _-_, _*_, _<_, _≤_}
-use mathlib.Core.Path.{_≡_, refl, sym, ap, _∙_}
+use Prim.Native.Nat.{ℕ, _+_, _-_, _<_, _≤_}
+use mathlib.Core.Path.{_≡_, refl}
 use mathlib.Core.Bool.{Bool, true, false, cond}
-use native.Mathlib.Omega.{arith}
-use lib.Dec.{eqb, leb, ltb, lit≤}
+use lib.Dec.{eqb, ltb, lit≤}
 use lib.IntN.{ℤ, pos, negsuc}
 use lib.Signed.{mag}
-use borrow.Author.Tests.{eqb-false, ltb-true, ltb-false}
+use borrow.Author.Tests.{ltb-true, ltb-false}
 use Rattle.machine.specs.Execution.{Outcome, divides, done, fault, fits, needs, rooms, within}
 use Rattle.machine.specs.State.{State}
-use Rattle.machine.proofs.Lists.{cases}
 
 -- a state that is reached is good, and a fault has a number of the table
 abbrev pub Ends : (State → Type 0) → Outcome → Type 0

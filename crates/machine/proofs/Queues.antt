@@ -1,20 +1,18 @@
 -- Laws of the tables: places, owners and queues after a move, an owner, or a save. Only this file opens the moves' definitions.
 -- Assumes nothing.
-use Prim.Native.Nat.{ℕ, suc, _+_, _*_, _<_, _≤_}
+use Prim.Native.Nat.{ℕ, _+_, _*_, _<_}
 use mathlib.Core.Path.{_≡_, refl, sym, ap, _∙_}
-use mathlib.Core.Bool.{Bool, true, false}
+use mathlib.Core.Bool.{false}
 use mathlib.Core.List.{List, [], _∷_, _++_}
 use mathlib.Core.Logic.{_≢_}
-use native.Mathlib.Omega.{arith}
 use lib.Dec.{eqb}
-use lib.ListN.{length, getD, set, length-set}
+use lib.ListN.{length, getD, length-set}
 use lib.Seq.{getD-set-same, getD-set-other}
 use borrow.Author.Tests.{eq-eqb, ne-eqb, eqb-true, eqb-false}
-use Rattle.machine.specs.Lists.{keep, count, toEnd}
+use Rattle.machine.specs.Lists.{count}
 use Rattle.machine.specs.Tables.{Tables, first, firstOf, isAt, owned, ownerOf, placeOf, queue, saved, sent}
-use Rattle.machine.specs.declared.numbers.First.{First}
 use Rattle.machine.specs.declared.numbers.First.the-variants.{Waiter, Nobody}
-use Rattle.machine.proofs.Lists.{arrives, cases, count-keep, count-to-end, departs, first-occurs, first-passes, keep-none, keep-same, keep-to-end, length-to-end, none-passes, same-or-not}
+use Rattle.machine.proofs.Lists.{arrives, count-keep, count-to-end, departs, first-occurs, first-passes, keep-none, keep-same, keep-to-end, length-to-end, none-passes, same-or-not}
 
 -- the tables' lists have the box's sizes
 pub record Sizes (size : ℕ) (tables : Tables) : Type 0 where

@@ -1,24 +1,21 @@
 -- The start: setting up leaves a right machine with a blank book. Assumes nothing.
-use Prim.Native.Nat.{ℕ, zero, suc, _+_, _-_, _*_, _<_, _≤_}
-use mathlib.Core.Path.{_≡_, refl, sym, ap, _∙_}
-use mathlib.Core.Bool.{Bool, true, false}
-use mathlib.Core.List.{List, [], _∷_}
+use Prim.Native.Nat.{ℕ, zero, suc, _-_, _*_, _<_, _≤_}
+use mathlib.Core.Path.{_≡_, refl, ap}
 use mathlib.Core.Logic.{_≢_}
 use native.Mathlib.Omega.{arith}
-use lib.Dec.{eqb, lit≤}
+use lib.Dec.{lit≤}
 use lib.IntN.{pos}
-use lib.ListN.{length, getD, replicate, getD-replicate, length-replicate, length-set}
+use lib.ListN.{getD, replicate, getD-replicate, length-replicate, length-set}
 use borrow.Author.Tests.{eq-eqb, ne-eqb}
-use Rattle.machine.specs.Book.{Book, blank}
-use Rattle.machine.specs.Plain.{Frame}
-use Rattle.machine.specs.Size.{mutexLimit, shared, storeSize}
-use Rattle.machine.specs.State.{State, start, startTables}
-use Rattle.machine.specs.Tables.{Tables, active, atMutex, lives, ownerOf, placeOf, queue, unmade}
-use Rattle.machine.proofs.Booked.{Booked, free}
+use Rattle.machine.specs.Book.{blank}
+use Rattle.machine.specs.Size.{mutexLimit, shared}
+use Rattle.machine.specs.State.{start, startTables}
+use Rattle.machine.specs.Tables.{active, atMutex, ownerOf, placeOf, unmade}
+use Rattle.machine.proofs.Booked.{Booked}
 use Rattle.machine.proofs.Lists.{count-past, count-up-to, length-up-to, same-or-not}
 use Rattle.machine.proofs.Moves.{Kempt}
-use Rattle.machine.proofs.Queues.{Sizes, no-queue}
-use Rattle.machine.proofs.Steady.{Marked, Right, Steady, active-right}
+use Rattle.machine.proofs.Queues.{no-queue}
+use Rattle.machine.proofs.Steady.{Right, active-right}
 
 zeros : (n k : ℕ) → getD {A = ℕ} (replicate n 0) k 0 ≡ 0
 zeros zero k = refl

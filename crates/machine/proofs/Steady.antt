@@ -1,26 +1,24 @@
 -- What holds of a machine between instructions, beside its book; and that Next, blocking and ending keep it. Assumes nothing.
-use Prim.Native.Nat.{ℕ, zero, suc, _+_, _-_, _*_, _<_, _≤_}
-use mathlib.Core.Path.{_≡_, refl, sym, ap, subst, _∙_}
+use Prim.Native.Nat.{ℕ, _-_, _<_, _≤_}
+use mathlib.Core.Path.{_≡_, refl, subst, _∙_}
 use mathlib.Core.Bool.{Bool, true, false, cond}
 use mathlib.Core.List.{List, [], _∷_}
 use mathlib.Core.Logic.{_≢_}
 use native.Mathlib.Omega.{arith}
-use lib.Dec.{ltb}
 use lib.IntN.{ℤ}
-use lib.ListN.{length, getD, set, length-set}
+use lib.ListN.{length, getD, length-set}
 use borrow.Author.Tests.{ltb-true, ltb-false}
 use Rattle.machine.specs.Book.{Book, fed}
 use Rattle.machine.specs.Book as event
-use Rattle.machine.specs.Plain.{Fault, Frame, Lives, Mode, Placed, Tidy}
+use Rattle.machine.specs.Plain.{Fault, Frame, Mode}
 use Rattle.machine.specs.Registers.{halted, nobody, running, stuck, withState}
 use Rattle.machine.specs.Size.{conditionLimit, mutexLimit, shared, storeSize, valuesSize}
 use Rattle.machine.specs.State.{State, blocked, ends, finished, left, next, nextOf, withRegs, withTables}
-use Rattle.machine.specs.Tables.{Tables, active, anyLive, atCondition, atEnd, atMutex, ended, first, lives, ownerOf, placeOf, queue, ready, saved, sent, unlocked, wakeAll}
+use Rattle.machine.specs.Tables.{Tables, anyLive, atCondition, atEnd, atMutex, ended, first, lives, ownerOf, placeOf, queue, ready, saved, sent, unlocked}
 use Rattle.machine.proofs.Booked.{entry}
 use Rattle.machine.proofs.Changes.{Both, gives, head-below, leaves, nobody-at, saves, starts, stops, waits, wakes-all}
 use Rattle.machine.proofs.Every.{some-false, some-true}
-use Rattle.machine.proofs.Lists.{cases}
-use Rattle.machine.proofs.Queues.{first-at, first-nobody, first-waiter, saved-depth, saved-frame, saved-owners, saved-pc, saved-places, saved-sizes, sent-owner, sent-saved}
+use Rattle.machine.proofs.Queues.{first-at, first-nobody, first-waiter, saved-depth, saved-frame, saved-owners, saved-pc, saved-places, sent-owner}
 
 -- the tables and the book, the registers' ranges, and the sizes of what is lent
 pub record Steady (size : ℕ) (s : State) (book : Book) : Type 0 where

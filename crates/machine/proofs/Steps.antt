@@ -1,7 +1,7 @@
 -- A step, and a run, keep the machine right and the book beside it. Assumes nothing.
 use Prim.Native.Nat.{ℕ, zero, suc, _+_, _<_, _≤_}
-use mathlib.Core.Path.{_≡_, refl, sym, ap, subst, _∙_}
-use mathlib.Core.Bool.{Bool, true, false, cond}
+use mathlib.Core.Path.{_≡_, refl}
+use mathlib.Core.Bool.{true, cond}
 use mathlib.Core.List.{List, [], _∷_, _++_}
 use mathlib.Core.Logic.{_≢_}
 use native.Mathlib.Omega.{arith}
@@ -11,15 +11,14 @@ use borrow.Author.Tests.{eqb-true, ltb-true, ne-eqb}
 use Rattle.machine.specs.Book.{Book, Entry, bookOf, eventOf, fed}
 use Rattle.machine.specs.Execution.{Outcome, done, exec, fault}
 use Rattle.machine.specs.Instructions.{Instruction, decoded}
-use Rattle.machine.specs.Plain.{Fault, Frame, Mode}
 use Rattle.machine.specs.Registers.{faulted, isRunning, running}
 use Rattle.machine.specs.State.{State}
-use Rattle.machine.specs.Step.{Ran, carried, entered, executed, faultedAt, joined, onward, run, step, still}
+use Rattle.machine.specs.Step.{Ran, carried, entered, faultedAt, onward, run, step}
 use Rattle.machine.proofs.Booked.{entry}
 use Rattle.machine.proofs.Execution.{exec-right}
 use Rattle.machine.proofs.Lists.{cases}
 use Rattle.machine.proofs.Outcomes.{Ends}
-use Rattle.machine.proofs.Steady.{Landed, Marked, Right, Runs, Steady}
+use Rattle.machine.proofs.Steady.{Landed, Marked, Right}
 use Rattle.machine.proofs.Targets.{Card}
 
 -- what a run must leave

@@ -1,15 +1,15 @@
 -- Every jump of an accepted card goes to an instruction of the card. Assumes nothing.
-use Prim.Native.Nat.{ℕ, zero, suc, _+_, _-_, _*_, _<_, _≤_}
-use mathlib.Core.Path.{_≡_, refl, sym, ap, subst, _∙_}
-use mathlib.Core.Bool.{Bool, true, false, cond, _&&_, _||_}
+use Prim.Native.Nat.{ℕ, zero, suc, _-_, _<_, _≤_}
+use mathlib.Core.Path.{_≡_, refl, ap}
+use mathlib.Core.Bool.{Bool, true, false, cond, _||_}
 use mathlib.Core.List.{List, [], _∷_}
 use mathlib.Core.Logic.{_≢_}
 use native.Mathlib.Omega.{arith}
 use lib.Dec.{eqb, ltb}
-use lib.IntN.{ℤ, pos, negsuc, natAbs, _-ℤ_}
+use lib.IntN.{ℤ, pos, negsuc, natAbs}
 use lib.ListN.{length, getD, List·getD-eq-default}
 use lib.Signed.{leZ}
-use borrow.Author.Tests.{eq-eqb, ne-eqb, eqb-true, eqb-false, leb-true, le-ltb, ltb-true, ltb-false}
+use borrow.Author.Tests.{ne-eqb, eqb-true, leb-true, le-ltb, ltb-false}
 use Rattle.instruction.specs.Rules.{allows, checkOf, isBetween, ruleOf}
 use Rattle.instruction.specs.Word.{opcodeOf, operandOf}
 use Rattle.instruction.specs.declared.Rule.the-variants as rule
@@ -22,8 +22,8 @@ use Rattle.card.specs.declared.scan.Scan.the-variants as scan
 use Rattle.machine.specs.Instructions.{Instruction, decoded, instructionOf, opcodes}
 use Rattle.machine.specs.Instructions as instr
 use Rattle.machine.specs.Lists.{every}
-use Rattle.machine.proofs.Every.{and-first, and-second, every-true, never, or-true}
-use Rattle.machine.proofs.Lists.{cases, less-or-not, same-or-not}
+use Rattle.machine.proofs.Every.{and-second, every-true, never, or-true}
+use Rattle.machine.proofs.Lists.{less-or-not, same-or-not}
 
 -- where a jump goes, and 0 for any other instruction
 unfoldable pub targetOf : Instruction → ℕ

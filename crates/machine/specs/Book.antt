@@ -1,11 +1,10 @@
 -- "What demand 3 speaks of": the plain book beside the tables. It is fed what was carried out and never looks at queues or owners.
-use Prim.Native.Nat.{ℕ, _+_, _-_, _≤_, _<_}
-use mathlib.Core.Bool.{Bool, true, false, cond, not as negate, _&&_, _||_}
+use Prim.Native.Nat.{ℕ, _+_, _-_}
+use mathlib.Core.Bool.{Bool, cond, not as negate, _&&_, _||_}
 use mathlib.Core.List.{List, [], _∷_, _++_}
-use mathlib.Core.Path.{_≡_}
 use lib.Dec.{eqb}
 use lib.IntN.{ℤ, pos, negsuc, natAbs}
-use lib.ListN.{length, drop}
+use lib.ListN.{drop}
 use Rattle.machine.specs.Execution.{eqZ}
 use Rattle.machine.specs.Instructions.{Instruction}
 use Rattle.machine.specs.Instructions as instr

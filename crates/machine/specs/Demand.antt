@@ -1,11 +1,11 @@
 -- Demand 3, as one statement over every accepted card, every lent memory and every list of calls. Its proof is in proofs/Demand.antt.
 use Prim.Native.Nat.{ℕ, zero, suc, _+_, _*_, _<_, _≤_}
-use mathlib.Core.Bool.{Bool, true, false, cond}
+use mathlib.Core.Bool.{cond}
 use mathlib.Core.List.{List, [], _∷_, _++_}
 use mathlib.Core.Logic.{_⊎_, _≢_}
 use mathlib.Core.Path.{_≡_}
 use lib.Dec.{eqb}
-use lib.ListN.{length, drop}
+use lib.ListN.{length}
 use Rattle.card.specs.Image.{readOf}
 use Rattle.card.specs.declared.reader.Reading.the-variants as reading
 use Rattle.machine.specs.Book.{Book, Entry, blank, bookOf, namesLeft}

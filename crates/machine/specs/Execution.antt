@@ -1,8 +1,7 @@
 -- "What each instruction does", in the paper's order, with the faults of the table in their order of precedence: 21 and 22 come first.
 -- PC has advanced already: see Step.antt.
 use Prim.Native.Nat.{ℕ, _+_, _-_, _*_}
-use mathlib.Core.Bool.{Bool, true, false, cond, not as negate, _&&_}
-use mathlib.Core.List.{List, [], _∷_}
+use mathlib.Core.Bool.{Bool, cond, not as negate, _&&_}
 use lib.Dec.{eqb, leb, ltb}
 use lib.IntN.{ℤ, pos, negsuc, negℤ, _+ℤ_, _-ℤ_, _*ℤ_}
 use lib.ListN.{getD, set, replicate}
@@ -13,8 +12,7 @@ use Rattle.machine.specs.Instructions as instr
 use Rattle.machine.specs.Registers.{halted, withCells, withFp, withFree, withMade, withPc, withState}
 use Rattle.machine.specs.Size.{conditionLimit, mutexLimit, shared, stackAt}
 use Rattle.machine.specs.State.{State, below, blocked, cell, ends, left, minusOne, newCells, newFp, newStack, next, sharedCell, top, withRegs, withStore, withTables, written}
-use Rattle.machine.specs.Tables.{Tables, atCondition, atEnd, atMutex, ended, owned, ownerOf, placeOf, ready, saved, sent, unlocked, wakeAll, wakeFirst}
-use Rattle.machine.specs.declared.registers.Registers.{Registers}
+use Rattle.machine.specs.Tables.{atCondition, atEnd, atMutex, ended, owned, ownerOf, placeOf, ready, saved, sent, unlocked, wakeAll, wakeFirst}
 
 -- an instruction is carried out, or it is a fault with its number
 pub data Outcome : Type 0 where

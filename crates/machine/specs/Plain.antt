@@ -1,10 +1,10 @@
 -- "Well formed", read plainly: what the test of WellFormed.antt says, clause by clause. proofs/Plain.antt proves that the test passes exactly
 -- where these hold.
-use Prim.Native.Nat.{ℕ, _+_, _*_, _<_, _≤_}
+use Prim.Native.Nat.{ℕ, _<_, _≤_}
 use mathlib.Core.List.{List}
 use mathlib.Core.Logic.{_≢_}
 use mathlib.Core.Path.{_≡_}
-use lib.ListN.{length, getD}
+use lib.ListN.{getD}
 use Rattle.machine.specs.Lists.{count}
 use Rattle.machine.specs.Registers.{faulted, halted, running, stuck}
 use Rattle.machine.specs.Size.{conditionLimit, mutexLimit, shared}

@@ -1,13 +1,13 @@
 -- "The machine": its state, cells and stacks, a new thread, setting up, Next and ending.
-use Prim.Native.Nat.{ℕ, _+_, _-_, _*_}
-use mathlib.Core.Bool.{Bool, cond}
-use mathlib.Core.List.{List, [], _∷_}
+use Prim.Native.Nat.{ℕ, _-_, _*_}
+use mathlib.Core.Bool.{cond}
+use mathlib.Core.List.{List, _∷_}
 use lib.IntN.{ℤ, pos, negsuc}
 use lib.ListN.{getD, set, replicate}
 use Rattle.machine.specs.Lists.{upTo}
 use Rattle.machine.specs.Registers.{halted, running, stuck, nobody, switched, withState}
-use Rattle.machine.specs.Size.{shared, stackAt, storeSize, valuesSize}
-use Rattle.machine.specs.Tables.{Tables, active, allReady, anyLive, atEnd, ended, first, ready, saved, sent, wakeAll}
+use Rattle.machine.specs.Size.{stackAt, storeSize, valuesSize}
+use Rattle.machine.specs.Tables.{Tables, active, anyLive, atEnd, ended, first, ready, saved, sent, wakeAll}
 use Rattle.machine.specs.declared.numbers.First.{First}
 use Rattle.machine.specs.declared.numbers.First.the-variants.{Waiter, Nobody}
 use Rattle.machine.specs.declared.registers.Registers.{Registers}

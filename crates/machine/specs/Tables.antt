@@ -16,7 +16,6 @@ use lib.ListN.{getD, set, take, drop}
 use Rattle.machine.specs.Lists.{keep, some, toEnd}
 use Rattle.machine.specs.declared.numbers.First.{First}
 use Rattle.machine.specs.declared.numbers.First.the-variants.{Waiter, Nobody}
-use Rattle.machine.specs.declared.registers.Registers.{Registers}
 
 pub record Tables : Type 0 where
   pub places : List ℕ

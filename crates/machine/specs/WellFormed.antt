@@ -1,6 +1,6 @@
 -- "Well formed": each clause of the paper as a test that computes. Plain.antt has the plain reading of each, proved from it and back.
 use Prim.Native.Nat.{ℕ, _+_, _-_, _*_}
-use mathlib.Core.Bool.{Bool, true, false, cond, not as negate, _&&_, _||_}
+use mathlib.Core.Bool.{Bool, true, cond, not as negate, _&&_, _||_}
 use mathlib.Core.List.{List, [], _∷_}
 use lib.Dec.{eqb, leb, ltb}
 use lib.IntN.{ℤ}

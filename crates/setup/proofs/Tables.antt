@@ -3,11 +3,10 @@ use Prim.Native.Nat.{ℕ, zero, suc, _+_, _*_, _-_, _<_, _≤_}
 use mathlib.Core.Path.{_≡_, refl, sym, ap, _∙_}
 use mathlib.Core.List.{List, [], _∷_, _++_}
 use native.Mathlib.Omega.{arith}
-use lib.Dec.{ltb}
 use lib.ListN.{length, getD, replicate, List·getD-append, getD-replicate, length-append, length-replicate, replicate-append-replicate}
 use lib.Seq.{ext-getD, getD-append-add}
-use borrow.Author.Tests.{lt-ltb, le-ltb, ne-eqb, eq-eqb}
-use Rattle.machine.proofs.Lists.{length-up-to, less-or-not, same-or-not}
+use borrow.Author.Tests.{lt-ltb, le-ltb, ne-eqb}
+use Rattle.machine.proofs.Lists.{length-up-to, less-or-not}
 use Rattle.machine.specs.Lists.{upTo}
 use Rattle.machine.specs.State.{startTables}
 use Rattle.machine.specs.Tables.{sliceOf}

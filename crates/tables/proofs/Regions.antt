@@ -1,9 +1,9 @@
 -- One number of a slice, read and stored, in the tables that the slice holds. Assumes nothing.
-use Prim.Native.Nat.{ℕ, suc, _+_, _*_, _-_, _<_, _≤_}
-use mathlib.Core.Path.{_≡_, refl, sym, ap, _∙_}
+use Prim.Native.Nat.{ℕ, _+_, _*_, _-_, _<_, _≤_}
+use mathlib.Core.Path.{_≡_, sym, ap, _∙_}
 use mathlib.Core.List.{List}
 use native.Mathlib.Omega.{arith}
-use lib.ListN.{length, getD, set, take, drop, length-set}
+use lib.ListN.{length, getD, set, take, drop}
 use lib.Seq.{drop-set-add, drop-set-lt, getD-drop, getD-take, take-set-le, take-set-lt}
 use Rattle.machine.specs.Tables.{Tables, owned, saved, tablesOf}
 use Rattle.tables.specs.Good.{Good, Left}

@@ -1,8 +1,7 @@
 -- Laws of taking the first of a queue, and of waking all of it one after the other. Assumes nothing.
-use Prim.Native.Nat.{ℕ, suc, _+_, _*_, _<_, _≤_}
+use Prim.Native.Nat.{ℕ, _<_}
 use mathlib.Core.Path.{_≡_, refl, sym, ap, _∙_}
 use mathlib.Core.List.{List, [], _∷_}
-use mathlib.Core.Logic.{_≢_}
 use native.Mathlib.Omega.{arith}
 use lib.ListN.{length}
 use Rattle.machine.proofs.Queues.{first-nobody, first-waiter, queue-left}
@@ -12,7 +11,6 @@ use Rattle.machine.specs.declared.numbers.Thread.{Thread}
 use Rattle.machine.specs.declared.numbers.First.{First}
 use Rattle.machine.specs.declared.numbers.First.the-variants.{Waiter, Nobody}
 use Rattle.tables.specs.Good.{Dequeued, Good, Left, taken}
-use Rattle.tables.proofs.Line.{found-real}
 
 -- the queue of what was found
 pub record Head (tables : Tables) (place t : ℕ) : Type 0 where

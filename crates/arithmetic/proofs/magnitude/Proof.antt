@@ -1,15 +1,15 @@
 -- `arithmetic::magnitude` meets its contract. Assumes nothing.
-use mathlib.Core.Path.{_≡_, refl, _∙_, ap}
+use mathlib.Core.Path.{_≡_, _∙_, ap}
 use native.Mathlib.Omega.{arith}
 use borrow.Author.Needs.{needs}
 use borrow.Author.Tests.{ltb-true}
 use lib.Dec.{T}
 use mathlib.Core.Bool.{true, false, true≢false}
-use lib.IntN.{ℤ, pos, negsuc, natAbs, negℤ, _-ℤ_, +ℤ-idl}
+use lib.IntN.{ℤ, pos, negsuc, natAbs, _-ℤ_}
 use lib.Signed.{nonNeg, ltZ}
 use mir.Facts.{fits-natAbs, sfits-lit, toZ-ofZ}
 use mir.Syntax.{w32, w64}
-use mir.Val.{Fits, SFits, ofZ, toZ}
+use mir.Val.{SFits, ofZ, toZ}
 use Rattle.arithmetic.proofs.Wide.{cast-fits, difference, result-fits, widened, widened-is}
 use Rattle.arithmetic.proofs.magnitude.Statement.{statement}
 use Rattle.arithmetic.proofs.magnitude.Tie as tie

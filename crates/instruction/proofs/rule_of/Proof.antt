@@ -1,6 +1,6 @@
 -- `instruction::rule_of` meets its contract. The compiler tests 1 and 6 first, then the ranges 4 to 5 and 20 to 21. Assumes nothing.
 use Prim.Native.Nat.{ℕ, _+_, _<_, _≤_}
-use mathlib.Core.Bool.{true, false, _||_}
+use mathlib.Core.Bool.{true, _||_}
 use mathlib.Core.Path.{_≡_, sym}
 use mathlib.Core.Logic.{⊎-elim}
 use native.Mathlib.Omega.{arith}

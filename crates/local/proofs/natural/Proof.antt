@@ -1,7 +1,4 @@
 -- `local::natural` meets its contract. Assumes nothing.
-use Prim.Native.Nat.{ℕ}
-use mathlib.Core.Path.{_≡_, refl, sym, ap, _∙_}
-use native.Mathlib.Omega.{arith}
 use borrow.Author.Needs.{needs}
 use mir.Facts.{fits-natAbs, toZ-ofZ}
 use Rattle.local.proofs.Opcodes.{not-negative}

@@ -1,11 +1,9 @@
 -- `tables::any_live` meets its contract. Assumes nothing.
 use Prim.Native.Nat.{ℕ, _-_, _<_}
-use mathlib.Core.Path.{_≡_, refl, sym, ap, _∙_}
+use mathlib.Core.Path.{_≡_, sym}
 use mathlib.Core.Bool.{false}
 use native.Mathlib.Omega.{arith}
 use borrow.Author.Needs.{needs}
-use denote.Ref.{now}
-use lib.ListN.{length, getD, set, length-set}
 use Rattle.machine.specs.Tables.{anyLive, lives, tablesOf}
 use Rattle.machine.proofs.Every.{false-some, true-some}
 use Rattle.machine.proofs.Lists.{same-or-not}

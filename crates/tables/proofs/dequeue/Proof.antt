@@ -1,10 +1,8 @@
 -- `tables::dequeue` meets its contract. Assumes nothing.
 use Prim.Native.Nat.{ℕ}
-use mathlib.Core.Path.{_≡_, refl, sym, ap, _∙_}
+use mathlib.Core.Path.{_≡_, refl, sym, _∙_}
 use native.Mathlib.Omega.{arith}
 use borrow.Author.Needs.{needs}
-use denote.Ref.{now}
-use lib.ListN.{length, length-set}
 use Rattle.tables.proofs.Line.{found-real}
 use Rattle.tables.proofs.dequeue.Statement.{statement}
 use Rattle.tables.proofs.dequeue.Tie as tie

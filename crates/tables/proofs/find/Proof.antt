@@ -1,12 +1,9 @@
 -- `tables::find` meets its contract. Assumes nothing.
-use Prim.Native.Nat.{ℕ, _+_, _*_, _-_, _<_, _≤_}
-use mathlib.Core.Path.{_≡_, refl, sym, ap, _∙_}
+use Prim.Native.Nat.{_-_}
+use mathlib.Core.Path.{_≡_, sym, _∙_}
 use native.Mathlib.Omega.{arith}
 use borrow.Author.Needs.{needs}
-use denote.Ref.{now}
-use lib.ListN.{getD, length}
 use Rattle.machine.specs.Tables.{first, tablesOf}
-use Rattle.tables.specs.Good.{Good}
 use Rattle.tables.proofs.Line.{member, search-end, search-found, search-on, search-start, searched}
 use Rattle.tables.proofs.find.Statement.{statement}
 use Rattle.tables.proofs.find.Tie as tie

@@ -1,9 +1,8 @@
 -- `tables::send` meets its contract. Assumes nothing.
-use mathlib.Core.Path.{_≡_, refl, sym, ap, _∙_}
+use mathlib.Core.Path.{_∙_}
 use native.Mathlib.Omega.{arith}
 use borrow.Author.Needs.{needs}
-use denote.Ref.{now}
-use lib.ListN.{length, length-set}
+use lib.ListN.{length-set}
 use Rattle.tables.proofs.Line.{once-in-line, sent-left}
 use Rattle.tables.proofs.send.Statement.{statement}
 use Rattle.tables.proofs.send.Tie as tie

@@ -1,9 +1,7 @@
 -- `tables::wake_all` meets its contract. Assumes nothing.
-use mathlib.Core.Path.{_≡_, refl, sym, ap, _∙_}
-use native.Mathlib.Omega.{arith}
+use mathlib.Core.Path.{_≡_, refl, sym, _∙_}
 use borrow.Author.Needs.{needs}
-use denote.Ref.{now}
-use lib.ListN.{length, length-set}
+use lib.ListN.{length}
 use Rattle.machine.specs.Tables.{queue, tablesOf, wakeAll}
 use Rattle.tables.specs.Good.{Good}
 use Rattle.tables.proofs.Waking.{all-woken, woke}

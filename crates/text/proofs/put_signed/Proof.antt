@@ -1,6 +1,6 @@
 -- `text::put_signed` meets its contract. Assumes nothing.
 use Prim.Native.Nat.{ℕ}
-use mathlib.Core.Path.{_≡_, ap, _∙_}
+use mathlib.Core.Path.{ap, _∙_}
 use mathlib.Core.List.{List, _∷_}
 use borrow.Author.Needs.{needs}
 use mir.Facts.{toZ-ofZ}

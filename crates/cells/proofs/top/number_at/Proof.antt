@@ -1,6 +1,5 @@
 -- `cells::number_at` meets its contract. Assumes nothing.
 use mathlib.Core.Path.{_∙_}
-use native.Mathlib.Omega.{arith}
 use borrow.Author.Needs.{needs}
 use Rattle.cells.proofs.Names.{found, too-few}
 use Rattle.cells.proofs.Tests.{of-cell}

@@ -1,5 +1,5 @@
 -- `cma::calls::run_box` meets its contract. Assumes nothing.
-use mathlib.Core.Path.{_≡_, refl, sym, ap, _∙_}
+use mathlib.Core.Path.{sym, _∙_}
 use borrow.Author.Needs.{needs}
 use borrow.Author.Tests.{eq-eqb, not-false, not-true}
 use Rattle.cma.proofs.Called.{carded, misfit, ran, unformed, unread}

@@ -1,5 +1,4 @@
 -- `cma::calls::step` meets its contract. Assumes nothing.
-use mathlib.Core.Path.{_≡_, refl, sym, ap, _∙_}
 use borrow.Author.Needs.{needs}
 use denote.Ref.{now}
 use Rattle.engine.specs.Contract.{boxed}

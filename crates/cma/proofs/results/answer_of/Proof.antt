@@ -1,8 +1,5 @@
 -- `cma::results::answer_of` meets its contract. Assumes nothing.
-use mathlib.Core.Path.{_≡_, refl, sym, ap, _∙_}
-use borrow.Author.Needs.{needs}
 use borrow.Author.Tests.{ne-eqb}
-use Rattle.machine.specs.Calls.{answerOf}
 use Rattle.cma.proofs.results.answer_of.Statement.{statement}
 use Rattle.cma.proofs.results.answer_of.Tie as tie
 

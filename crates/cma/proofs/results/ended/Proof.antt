@@ -1,5 +1,4 @@
 -- `cma::results::ended` meets its contract. Assumes nothing.
-use mathlib.Core.Path.{_≡_, refl, sym, ap, _∙_}
 use borrow.Author.Needs.{needs}
 use Rattle.cma.proofs.results.ended.Statement.{statement}
 use Rattle.cma.proofs.results.ended.Tie as tie

@@ -1,5 +1,5 @@
 -- `engine::run` meets its contract. Assumes nothing.
-use mathlib.Core.Path.{_≡_, refl, _∙_}
+use mathlib.Core.Path.{refl, _∙_}
 use native.Mathlib.Omega.{arith}
 use Rattle.engine.proofs.Course.{Going, ahead, begun, falls, further, over-done, over-stopped}
 use Rattle.engine.proofs.runs.run.Statement.{statement}
