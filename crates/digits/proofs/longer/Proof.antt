@@ -1,0 +1,28 @@
+-- `digits::longer` meets its contract. Assumes nothing.
+use native.Mathlib.Omega.{arith}
+use borrow.Author.Needs.{needs}
+use borrow.Author.Tests.{le-ltb, lt-ltb}
+use Rattle.digits.proofs.Undone.{digit}
+use Rattle.digits.proofs.longer.Statement.{statement}
+use Rattle.digits.proofs.longer.Tie as tie
+
+mul-m : tie.Need-mul-m
+mul-m c = search needs
+
+sub-m : tie.Need-sub-m
+sub-m c = omega (arith, digit (c .args .b) (c .pre .1) .least)
+
+cast-m : tie.Need-cast-m
+cast-m c = search needs
+
+add-m : tie.Need-add-m
+add-m c = search needs
+
+returns : tie.Need-returns
+returns c = (rw (lt-ltb _ _ (c .if1 .taken)), omega (arith, c .if1 .taken))
+
+returns-2 : tie.Need-returns-2
+returns-2 c = (rw (le-ltb _ _ (c .if1 .left)), omega arith)
+
+pub longer-spec : {M : Type 1} → statement M
+longer-spec = tie.close (tie.spec mul-m sub-m cast-m add-m returns returns-2)
