@@ -1,32 +1,20 @@
 -- Writing and reading decimal numbers undo each other. Assumes nothing.
 use Prim.Native.Nat.{ℕ, zero, suc, _+_, _*_, _-_, _/_, _%_, _^_, _≤_, _<_}
-use mathlib.Core.Bool.{Bool, true, false, not, _&&_}
+use mathlib.Core.Bool.{true, false, not, _&&_}
 use mathlib.Core.List.{List, [], _∷_, _++_, append-assoc, append-nil}
 use mathlib.Core.Path.{_≡_, refl, _∙_}
 use native.Mathlib.Nat.{pow-suc}
 use native.Mathlib.Numerals.{sub-one}
 use native.Mathlib.Omega.{arith}
-use borrow.Author.Tests.{eqb-false, le-leb, le-ltb, leb-true, lt-ltb, ltb-false, ltb-true, ne-eqb, not-true}
-use lib.Dec.{eqb, leb, ltb}
+use borrow.Author.Tests.{eqb-false, le-leb, le-ltb, leb-true, lt-ltb, ne-eqb, not-true}
+use lib.Dec.{eqb, leb}
 use lib.ListN.{length}
 use Rattle.io.specs.Digits.{Fewest, digits, glyph}
 use Rattle.text.specs.Decimal.{decimal, places}
 use Rattle.digits.specs.Reading.{allDigits, isDecimal, isDigit, valueFrom, valueOf}
 use Rattle.text.proofs.Decimal.{places-fewest}
-
-pub less-or-not : {X : Type 0} (a b : ℕ) → (a < b → X) → (b ≤ a → X) → X
-less-or-not {X = X} a b less other = by-test (ltb a b) refl
-  where
-    by-test : (t : Bool) → ltb a b ≡ t → X
-    by-test true e = less (ltb-true a b e)
-    by-test false e = other (ltb-false a b e)
-
-pub and-both : (a b : Bool) → (a && b) ≡ true → (a ≡ true) × (b ≡ true)
-and-both true b e = (refl, e)
-and-both false b e = absurd (let z : _≡_ {A = ℕ} 0 1 = cc in omega arith)
-
-and-true : (a b : Bool) → a ≡ true → b ≡ true → (a && b) ≡ true
-and-true a b e h = rw (e, h)
+use Rattle.machine.proofs.Every.{and-true, true-and}
+use Rattle.machine.proofs.Lists.{less-or-not}
 
 -- ---- digits
 
@@ -35,13 +23,13 @@ pub record Digit (b : ℕ) : Type 0 where
   pub most : b ≤ 57
 
 pub digit : (b : ℕ) → isDigit b ≡ true → Digit b
-digit b e = let both = and-both (leb 48 b) (leb b 57) e in record { least = leb-true 48 b (both .0); most = leb-true b 57 (both .1) }
+digit b e = let both = and-true (leb 48 b) (leb b 57) e in record { least = leb-true 48 b (both .0); most = leb-true b 57 (both .1) }
 
 glyph-is : (d : ℕ) → d < 10 → glyph d ≡ 48 + d
 glyph-is d h = rw (lt-ltb d 10 h)
 
 glyph-digit : (d : ℕ) → d < 10 → isDigit (glyph d) ≡ true
-glyph-digit d h = rw (glyph-is d h) (and-true (leb 48 (48 + d)) (leb (48 + d) 57) (le-leb 48 (48 + d) (omega arith)) (le-leb (48 + d) 57 (omega arith)))
+glyph-digit d h = rw (glyph-is d h) (true-and (leb 48 (48 + d)) (leb (48 + d) 57) (le-leb 48 (48 + d) (omega arith)) (le-leb (48 + d) 57 (omega arith)))
 
 -- ---- a text of digits as a number
 
@@ -63,7 +51,7 @@ digits-after : (k n : ℕ) (ds : List ℕ) (m : ℕ) → m ≡ length ds + k →
 unfolding allDigits valueFrom
 digits-after k n [] m same e = let all : m ≡ k = omega (arith, same) in rw (all, append-nil)
 digits-after k n (b ∷ rest) m same e =
-    let both = and-both (isDigit b) (allDigits rest) e in
+    let both = and-true (isDigit b) (allDigits rest) e in
     let d = digit b (both .0) in
     let front : (10 * n + (b - 48)) / 10 ≡ n = omega (arith, d .least, d .most) in
     let last : (10 * n + (b - 48)) % 10 ≡ b - 48 = omega (arith, d .least, d .most) in
@@ -76,7 +64,7 @@ value-less : (j n : ℕ) (ds : List ℕ) (m : ℕ) → m ≡ length ds + j → a
 unfolding allDigits valueFrom
 value-less j n [] m same e h = let all : m ≡ j = omega (arith, same) in rw all h
 value-less j n (b ∷ rest) m same e h =
-    let both = and-both (isDigit b) (allDigits rest) e in
+    let both = and-true (isDigit b) (allDigits rest) e in
     let d = digit b (both .0) in
     value-less (suc j) (10 * n + (b - 48)) rest m (omega (arith, same)) (both .1) (omega (arith, h, d .most, pow-suc 10 j))
 
@@ -90,10 +78,10 @@ value-least j n (b ∷ rest) m same h = value-least (suc j) (10 * n + (b - 48)) 
 pub all-of : (ds : List ℕ) → isDecimal ds ≡ true → allDigits ds ≡ true
 unfolding allDigits isDecimal
 all-of [] e = refl
-all-of (b ∷ []) e = and-true (isDigit b) true e refl
+all-of (b ∷ []) e = true-and (isDigit b) true e refl
 all-of (b ∷ c ∷ rest) e =
-    let both = and-both (isDigit b) (not (eqb b 48) && allDigits (c ∷ rest)) e in
-    and-true (isDigit b) (allDigits (c ∷ rest)) (both .0) (and-both (not (eqb b 48)) (allDigits (c ∷ rest)) (both .1) .1)
+    let both = and-true (isDigit b) (not (eqb b 48) && allDigits (c ∷ rest)) e in
+    true-and (isDigit b) (allDigits (c ∷ rest)) (both .0) (and-true (not (eqb b 48)) (allDigits (c ∷ rest)) (both .1) .1)
 
 -- without leading zeros, it stands in the fewest places
 fewest-of : (ds : List ℕ) → isDecimal ds ≡ true → Fewest 10 1 (valueOf ds) (length ds)
@@ -101,8 +89,8 @@ unfolding isDecimal valueFrom
 fewest-of [] e = absurd (let z : _≡_ {A = ℕ} 0 1 = cc in omega arith)
 fewest-of (b ∷ []) e = (omega arith, omega (arith, digit b e .most), λ h. absurd (omega (arith, h)))
 fewest-of (b ∷ c ∷ rest) e =
-    let both = and-both (isDigit b) (not (eqb b 48) && allDigits (c ∷ rest)) e in
-    let more = and-both (not (eqb b 48)) (allDigits (c ∷ rest)) (both .1) in
+    let both = and-true (isDigit b) (not (eqb b 48) && allDigits (c ∷ rest)) e in
+    let more = and-true (not (eqb b 48)) (allDigits (c ∷ rest)) (both .1) in
     let d = digit b (both .0) in
     let away = eqb-false b 48 (not-true (eqb b 48) (more .0)) in
     let first : ℕ = 10 * 0 + (b - 48) in
@@ -133,8 +121,8 @@ decimal-read n h = digits-read (places 19 n) n (places-hold 19 n h)
 
 all-snoc : (ds : List ℕ) (b : ℕ) → allDigits ds ≡ true → isDigit b ≡ true → allDigits (ds ++ b ∷ []) ≡ true
 unfolding allDigits
-all-snoc [] b e h = and-true (isDigit b) true h refl
-all-snoc (c ∷ rest) b e h = let both = and-both (isDigit c) (allDigits rest) e in and-true (isDigit c) (allDigits (rest ++ b ∷ [])) (both .0) (all-snoc rest b (both .1) h)
+all-snoc [] b e h = true-and (isDigit b) true h refl
+all-snoc (c ∷ rest) b e h = let both = and-true (isDigit c) (allDigits rest) e in true-and (isDigit c) (allDigits (rest ++ b ∷ [])) (both .0) (all-snoc rest b (both .1) h)
 
 -- a digit more after a number that isn't 0
 decimal-snoc : (ds : List ℕ) (b : ℕ) → isDecimal ds ≡ true → 1 ≤ valueOf ds → isDigit b ≡ true → isDecimal (ds ++ b ∷ []) ≡ true
@@ -142,12 +130,12 @@ unfolding allDigits isDecimal valueFrom
 decimal-snoc [] b e one h = absurd (let z : _≡_ {A = ℕ} 0 1 = cc in omega arith)
 decimal-snoc (c ∷ []) b e one h =
     let away : eqb c 48 ≡ false = ne-eqb c 48 (λ k. omega (arith, one, k)) in
-    and-true (isDigit c) (not (eqb c 48) && allDigits (b ∷ [])) e (rw away (all-snoc [] b refl h))
+    true-and (isDigit c) (not (eqb c 48) && allDigits (b ∷ [])) e (rw away (all-snoc [] b refl h))
 decimal-snoc (c ∷ d ∷ rest) b e one h =
-    let both = and-both (isDigit c) (not (eqb c 48) && allDigits (d ∷ rest)) e in
-    let more = and-both (not (eqb c 48)) (allDigits (d ∷ rest)) (both .1) in
-    and-true (isDigit c) (not (eqb c 48) && allDigits (d ∷ rest ++ b ∷ [])) (both .0)
-    (and-true (not (eqb c 48)) (allDigits (d ∷ rest ++ b ∷ [])) (more .0) (all-snoc (d ∷ rest) b (more .1) h))
+    let both = and-true (isDigit c) (not (eqb c 48) && allDigits (d ∷ rest)) e in
+    let more = and-true (not (eqb c 48)) (allDigits (d ∷ rest)) (both .1) in
+    true-and (isDigit c) (not (eqb c 48) && allDigits (d ∷ rest ++ b ∷ [])) (both .0)
+    (true-and (not (eqb c 48)) (allDigits (d ∷ rest ++ b ∷ [])) (more .0) (all-snoc (d ∷ rest) b (more .1) h))
 
 -- what is written has no leading zeros
 written : (fuel n : ℕ) → n < 10 ^ suc fuel → isDecimal (digits 10 (places fuel n) n) ≡ true

@@ -11,7 +11,8 @@ use lib.Dec.{eqb}
 use lib.ListN.{length, getD, drop, drop-of-length-le}
 use lib.Seq.{drop-cons}
 use Rattle.digits.specs.Reading.{allDigits, capped, isDecimal, isDigit, valueFrom}
-use Rattle.digits.proofs.Undone.{and-both, less-or-not}
+use Rattle.machine.proofs.Every.{and-true}
+use Rattle.machine.proofs.Lists.{less-or-not}
 
 module _ (word : List ℕ) (i : ℕ) where
   -- the digits from i on, by the byte there
@@ -31,7 +32,7 @@ module _ (word : List ℕ) (i : ℕ) where
 
   -- one of digits alone is a digit, and the rest are
   pub of-digits : i < length word → allDigits (drop i word) ≡ true → (isDigit (getD word i 0) ≡ true) × (allDigits (drop (i + 1) word) ≡ true)
-  of-digits h e = and-both (isDigit (getD word i 0)) (allDigits (drop (i + 1) word)) (sym (at-digit h) ∙ e)
+  of-digits h e = and-true (isDigit (getD word i 0)) (allDigits (drop (i + 1) word)) (sym (at-digit h) ∙ e)
 
 -- ---- capped numbers
 
