@@ -1,0 +1,80 @@
+-- Laws of cutting: what is cut and put together again is as before, both ways round. Assumes nothing.
+use Prim.Native.Nat.{ℕ, suc, _+_, _-_, _≤_, _<_}
+use mathlib.Core.Bool.{Bool, true, false, cond, not, _&&_}
+use mathlib.Core.List.{List, [], _∷_, _++_}
+use mathlib.Core.Path.{_≡_, refl, sym, _∙_, ap}
+use native.Mathlib.Omega.{arith}
+use borrow.Author.Tests.{eqb-true, eq-eqb, not-true}
+use lib.Dec.{eqb}
+use lib.ListN.{length, take, drop}
+use Rattle.words.specs.Words.{lacks, onto, same, split, upTo}
+use Rattle.machine.proofs.Every.{and-true}
+
+-- ---- the same word
+
+pub same-is : (a b : List ℕ) → same a b ≡ true → a ≡ b
+unfolding same
+same-is [] [] e = refl
+same-is [] (c ∷ cs) e = absurd (let z : _≡_ {A = ℕ} 0 1 = cc in omega arith)
+same-is (b ∷ bs) [] e = absurd (let z : _≡_ {A = ℕ} 0 1 = cc in omega arith)
+same-is (b ∷ bs) (c ∷ cs) e = let both = and-true (eqb b c) (same bs cs) e in rw (eqb-true b c (both .0), same-is bs cs (both .1))
+
+pub same-self : (a : List ℕ) → same a a ≡ true
+unfolding same
+same-self [] = refl
+same-self (b ∷ bs) = rw (eq-eqb b b refl) (same-self bs)
+
+-- ---- a text by its first separator, at p
+
+pub cut : (sep : ℕ) (l : List ℕ) (p : ℕ) → p ≡ length (upTo sep l) → p < length l → split sep l ≡ take p l ∷ split sep (drop (suc p) l)
+unfolding split upTo
+cut sep [] p e h = absurd (omega (arith, h))
+cut sep (b ∷ rest) p e h = by (eqb b sep) refl e (cut sep rest (length (upTo sep rest)) refl)
+  where
+    by : (t : Bool) → eqb b sep ≡ t → p ≡ length (cond t [] (b ∷ upTo sep rest)) →
+        (length (upTo sep rest) < length rest → split sep rest ≡ take (length (upTo sep rest)) rest ∷ split sep (drop (suc (length (upTo sep rest))) rest)) →
+        split sep (b ∷ rest) ≡ take p (b ∷ rest) ∷ split sep (drop (suc p) (b ∷ rest))
+    by true t q later = rw (t, q)
+    by false t q later = rw (t, q, later (omega (arith, h, q)))
+
+pub whole : (sep : ℕ) (l : List ℕ) → length l ≤ length (upTo sep l) → split sep l ≡ l ∷ []
+unfolding split upTo
+whole sep [] h = refl
+whole sep (b ∷ rest) h = by (eqb b sep) refl h (whole sep rest)
+  where
+    by : (t : Bool) → eqb b sep ≡ t → suc (length rest) ≤ length (cond t [] (b ∷ upTo sep rest)) →
+        (length rest ≤ length (upTo sep rest) → split sep rest ≡ rest ∷ []) → split sep (b ∷ rest) ≡ (b ∷ rest) ∷ []
+    by true t q later = absurd (omega (arith, q))
+    by false t q later = rw (t, later (omega (arith, q)))
+
+-- ---- a part without a separator
+
+pub part-alone : (sep : ℕ) (l : List ℕ) → lacks sep l ≡ true → split sep l ≡ l ∷ []
+unfolding split lacks
+part-alone sep [] e = refl
+part-alone sep (b ∷ rest) e =
+    let both = and-true (not (eqb b sep)) (lacks sep rest) e in
+    rw (not-true (eqb b sep) (both .0), part-alone sep rest (both .1))
+
+pub part-first : (sep : ℕ) (l rest : List ℕ) → lacks sep l ≡ true → split sep (l ++ sep ∷ rest) ≡ l ∷ split sep rest
+unfolding split lacks
+part-first sep [] rest e = rw (eq-eqb sep sep refl)
+part-first sep (b ∷ more) rest e =
+    let both = and-true (not (eqb b sep)) (lacks sep more) e in
+    rw (not-true (eqb b sep) (both .0), part-first sep more rest (both .1))
+
+-- ---- the part in front of the first separator, which lies at r
+
+pub taken : (sep : ℕ) (l : List ℕ) → take (length (upTo sep l)) l ≡ upTo sep l
+unfolding upTo
+taken sep [] = refl
+taken sep (b ∷ rest) = by (eqb b sep) (taken sep rest)
+  where
+    by : (t : Bool) → take (length (upTo sep rest)) rest ≡ upTo sep rest → take (length (cond t [] (b ∷ upTo sep rest))) (b ∷ rest) ≡ cond t [] (b ∷ upTo sep rest)
+    by true e = refl
+    by false e = ap (λ (l : List ℕ). b ∷ l) e
+
+pub part : (sep : ℕ) (l : List ℕ) (at r : ℕ) → r ≡ at + length (upTo sep (drop at l)) → take (r - at) (drop at l) ≡ upTo sep (drop at l)
+part sep l at r e =
+    let size : r - at ≡ length (upTo sep (drop at l)) = omega (arith, e) in
+    rw size (taken sep (drop at l))
