@@ -47,7 +47,7 @@ digits-read (suc k) n h =
     ∙ rw (digits-read k (n / 10) (omega (arith, h, pow-suc 10 k)), glyph-is (n % 10) (omega arith)) (omega arith)
 
 -- digits after those of n are the digits of the number that they make
-digits-after : (k n : ℕ) (ds : List ℕ) (m : ℕ) → m ≡ length ds + k → allDigits ds ≡ true → digits 10 m (valueFrom n ds) ≡ digits 10 k n ++ ds
+pub digits-after : (k n : ℕ) (ds : List ℕ) (m : ℕ) → m ≡ length ds + k → allDigits ds ≡ true → digits 10 m (valueFrom n ds) ≡ digits 10 k n ++ ds
 unfolding allDigits valueFrom
 digits-after k n [] m same e = let all : m ≡ k = omega (arith, same) in rw (all, append-nil)
 digits-after k n (b ∷ rest) m same e =
@@ -60,7 +60,7 @@ digits-after k n (b ∷ rest) m same e =
     ∙ rw (front, last, shown, append-assoc)
 
 -- how large it is
-value-less : (j n : ℕ) (ds : List ℕ) (m : ℕ) → m ≡ length ds + j → allDigits ds ≡ true → n < 10 ^ j → valueFrom n ds < 10 ^ m
+pub value-less : (j n : ℕ) (ds : List ℕ) (m : ℕ) → m ≡ length ds + j → allDigits ds ≡ true → n < 10 ^ j → valueFrom n ds < 10 ^ m
 unfolding allDigits valueFrom
 value-less j n [] m same e h = let all : m ≡ j = omega (arith, same) in rw all h
 value-less j n (b ∷ rest) m same e h =
@@ -123,6 +123,12 @@ all-snoc : (ds : List ℕ) (b : ℕ) → allDigits ds ≡ true → isDigit b ≡
 unfolding allDigits
 all-snoc [] b e h = true-and (isDigit b) true h refl
 all-snoc (c ∷ rest) b e h = let both = and-true (isDigit c) (allDigits rest) e in true-and (isDigit c) (allDigits (rest ++ b ∷ [])) (both .0) (all-snoc rest b (both .1) h)
+
+-- what is written is digits
+pub digits-all : (k n : ℕ) → allDigits (digits 10 k n) ≡ true
+unfolding allDigits
+digits-all zero n = refl
+digits-all (suc k) n = all-snoc (digits 10 k (n / 10)) (glyph (n % 10)) (digits-all k (n / 10)) (glyph-digit (n % 10) (omega arith))
 
 -- a digit more after a number that isn't 0
 decimal-snoc : (ds : List ℕ) (b : ℕ) → isDecimal ds ≡ true → 1 ≤ valueOf ds → isDigit b ≡ true → isDecimal (ds ++ b ∷ []) ≡ true

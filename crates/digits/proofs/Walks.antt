@@ -39,7 +39,7 @@ module _ (word : List ℕ) (i : ℕ) where
 pub capped-small : (n : ℕ) → n ≤ 1000000000 → capped n ≡ n
 capped-small n h = less-or-not n 1000000000 (λ e. rw (lt-ltb n 1000000000 e)) (λ e. rw (le-ltb n 1000000000 e) (omega (arith, h, e)))
 
-capped-large : (n : ℕ) → 1000000000 ≤ n → capped n ≡ 1000000000
+pub capped-large : (n : ℕ) → 1000000000 ≤ n → capped n ≡ 1000000000
 capped-large n h = rw (le-ltb n 1000000000 h)
 
 value-grows : (n : ℕ) (ds : List ℕ) → n ≤ valueFrom n ds

@@ -7,8 +7,8 @@ use native.Mathlib.Omega.{arith}
 use borrow.Author.Tests.{eqb-true, eq-eqb, not-true}
 use lib.Dec.{eqb}
 use lib.ListN.{length, take, drop}
-use Rattle.words.specs.Words.{lacks, onto, same, split, upTo}
-use Rattle.machine.proofs.Every.{and-true}
+use Rattle.words.specs.Words.{join, lacks, onto, same, split, upTo}
+use Rattle.machine.proofs.Every.{and-true, true-and}
 
 -- ---- the same word
 
@@ -78,3 +78,78 @@ pub part : (sep : ℕ) (l : List ℕ) (at r : ℕ) → r ≡ at + length (upTo s
 part sep l at r e =
     let size : r - at ≡ length (upTo sep (drop at l)) = omega (arith, e) in
     rw size (taken sep (drop at l))
+
+-- ---- there is always a part
+
+pub record Parts (parts : List (List ℕ)) : Type 0 where
+  pub first : List ℕ
+  pub others : List (List ℕ)
+  pub are : parts ≡ first ∷ others
+
+pub parts : (sep : ℕ) (l : List ℕ) → Parts (split sep l)
+unfolding split
+parts sep [] = record { first = []; others = []; are = refl }
+parts sep (b ∷ rest) = by (eqb b sep) (parts sep rest)
+  where
+    by : (t : Bool) → Parts (split sep rest) → Parts (cond t ([] ∷ split sep rest) (onto b (split sep rest)))
+    by true p = record { first = []; others = split sep rest; are = refl }
+    by false p = rw (p .are) (record { first = b ∷ p .first; others = p .others; are = refl })
+
+-- with a separator there are two
+pub record Two (parts : List (List ℕ)) : Type 0 where
+  pub first : List ℕ
+  pub second : List ℕ
+  pub others : List (List ℕ)
+  pub are : parts ≡ first ∷ second ∷ others
+
+pub two : (sep : ℕ) (l : List ℕ) → lacks sep l ≡ false → Two (split sep l)
+unfolding lacks split
+two sep [] e = absurd (let z : _≡_ {A = ℕ} 0 1 = cc in omega arith)
+two sep (b ∷ rest) e = by (eqb b sep) e (two sep rest)
+  where
+    by : (t : Bool) → (not t && lacks sep rest) ≡ false → (lacks sep rest ≡ false → Two (split sep rest)) → Two (cond t ([] ∷ split sep rest) (onto b (split sep rest)))
+    by true q later =
+        let p = parts sep rest in
+        record { first = []; second = p .first; others = p .others; are = ap (λ (ps : List (List ℕ)). [] ∷ ps) (p .are) }
+    by false q later =
+        let p = later q in
+        rw (p .are) (record { first = b ∷ p .first; second = p .second; others = p .others; are = refl })
+
+-- ---- put together again
+
+join-onto : (sep b : ℕ) (first : List ℕ) (others : List (List ℕ)) → join sep ((b ∷ first) ∷ others) ≡ b ∷ join sep (first ∷ others)
+unfolding join
+join-onto sep b first [] = refl
+join-onto sep b first (next ∷ others) = refl
+
+pub join-split : (sep : ℕ) (l : List ℕ) → join sep (split sep l) ≡ l
+unfolding join split
+join-split sep [] = refl
+join-split sep (b ∷ rest) = by (eqb b sep) refl (parts sep rest) (join-split sep rest)
+  where
+    by : (t : Bool) → eqb b sep ≡ t → (p : Parts (split sep rest)) → join sep (split sep rest) ≡ rest → join sep (cond t ([] ∷ split sep rest) (onto b (split sep rest))) ≡ b ∷ rest
+    by true t p e = rw (p .are) (rw (eqb-true b sep t) (ap (λ (l : List ℕ). sep ∷ l) (rw (p .are) at e)))
+    by false t p e = rw (p .are) (join-onto sep b (p .first) (p .others) ∙ ap (λ (l : List ℕ). b ∷ l) (rw (p .are) at e))
+
+-- parts that have no separator in them
+abbrev pub AllLack : ℕ → List (List ℕ) → Type 0
+AllLack sep [] = Unit
+AllLack sep (part ∷ parts) = (lacks sep part ≡ true) × AllLack sep parts
+
+pub split-join : (sep : ℕ) (first : List ℕ) (others : List (List ℕ)) → AllLack sep (first ∷ others) → split sep (join sep (first ∷ others)) ≡ first ∷ others
+unfolding join
+split-join sep first [] h = part-alone sep first (h .0)
+split-join sep first (next ∷ others) h = part-first sep first (join sep (next ∷ others)) (h .0) ∙ ap (λ (ps : List (List ℕ)). first ∷ ps) (split-join sep next others (h .1))
+
+pub lacks-append : (sep : ℕ) (a b : List ℕ) → lacks sep a ≡ true → lacks sep b ≡ true → lacks sep (a ++ b) ≡ true
+unfolding lacks
+lacks-append sep [] b e h = h
+lacks-append sep (c ∷ rest) b e h =
+    let both = and-true (not (eqb c sep)) (lacks sep rest) e in
+    true-and (not (eqb c sep)) (lacks sep (rest ++ b)) (both .0) (lacks-append sep rest b (both .1) h)
+
+-- a text of parts lacks another separator that none of them has
+pub lacks-join : (sep other : ℕ) (first : List ℕ) (others : List (List ℕ)) → eqb sep other ≡ false → AllLack other (first ∷ others) → lacks other (join sep (first ∷ others)) ≡ true
+unfolding join lacks
+lacks-join sep other first [] ne h = h .0
+lacks-join sep other first (next ∷ others) ne h = lacks-append other first (sep ∷ join sep (next ∷ others)) (h .0) (rw ne (lacks-join sep other next others ne (h .1)))

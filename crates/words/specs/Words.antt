@@ -38,3 +38,9 @@ onto b (part ∷ parts) = (b ∷ part) ∷ parts
 unfoldable pub split : ℕ → List ℕ → List (List ℕ)
 split sep [] = [] ∷ []
 split sep (b ∷ rest) = cond (eqb b sep) ([] ∷ split sep rest) (onto b (split sep rest))
+
+-- parts with a separator between two of them
+unfoldable pub join : ℕ → List (List ℕ) → List ℕ
+join sep [] = []
+join sep (part ∷ []) = part
+join sep (part ∷ next ∷ parts) = part ++ sep ∷ join sep (next ∷ parts)

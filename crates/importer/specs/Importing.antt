@@ -1,0 +1,77 @@
+-- Importing: "40 .., 41 .., 42 ..; then 3 to 5 as the writer gives them; 43 at 0, last, no room for the .. image".
+use Prim.Native.Nat.{ℕ, suc, _+_, _*_, _-_}
+use mathlib.Core.Bool.{Bool, cond, _&&_, _||_}
+use mathlib.Core.List.{List, [], _∷_, _++_}
+use mathlib.Core.Option.{Option, none, some}
+use mathlib.Core.Path.{_≡_}
+use lib.Dec.{ltb}
+use lib.IntN.{ℤ, pos, negsuc}
+use lib.ListN.{drop, length}
+use Rattle.instruction.specs.Rules.{allows, isBetween, ruleOf}
+use Rattle.card.specs.Image.{imageSize, lastOf, outOfRange}
+use Rattle.card.specs.Writing.{imageOf}
+use Rattle.words.specs.Words.{split}
+use Rattle.importer.specs.Forms.{Item, Text, card, refused, textRead}
+use Rattle.importer.specs.declared.importing.Importing.{Importing}
+use Rattle.importer.specs.declared.importing.Importing.the-variants.{Imported, Refused}
+
+-- what the lines of a text say
+abbrev pub said : List ℕ → Text
+said text = textRead (split 10 text)
+
+-- "a 24-bit two's complement operand": which numbers it can be, and the bits of such a number
+abbrev pub inBits : ℤ → Bool
+inBits k = isBetween (negsuc 8388607) (pos 8388607) k
+
+abbrev pub bitsOf : ℤ → ℕ
+bitsOf (pos k) = k
+bitsOf (negsuc k) = 16777215 - k
+
+-- an instruction as a word: opcode times 2^24 plus the operand's 24 bits
+abbrev pub wordOf : Item → ℕ
+wordOf item = item .opcode * 16777216 + bitsOf (item .operand)
+
+unfoldable pub wordsOf : List Item → List ℕ
+wordsOf [] = []
+wordsOf (item ∷ items) = wordOf item ∷ wordsOf items
+
+-- number 5, "operand against its rule", of which none allows more than 24 bits
+abbrev pub isAllowed : ℤ → Item → Bool
+isAllowed last item = inBits (item .operand) && allows (ruleOf (item .opcode)) last (item .operand)
+
+-- the index of the first instruction whose operand is against its rule, counted from `index`
+unfoldable pub firstAgainst : ℤ → ℕ → List Item → Option ℕ
+firstAgainst last index [] = none
+firstAgainst last index (item ∷ items) = cond (isAllowed last item) (firstAgainst last (suc index) items) (some index)
+
+abbrev pub afterRules : Option ℕ → Importing → Importing
+afterRules (some index) rest = Refused 5 index
+afterRules none rest = rest
+
+-- the answer on what a text says, for a buffer with so much room. No text gives 4: a name that isn't known is a line of another form
+unfoldable pub answerOf : Text → ℕ → Importing
+answerOf (refused number place) room = Refused number place
+answerOf (card cells items) room =
+    cond (outOfRange cells || outOfRange (length items)) (Refused 3 5)
+    (afterRules (firstAgainst (lastOf (length items)) 0 items)
+    (cond (ltb room (imageSize (length items))) (Refused 43 0)
+    (Imported (imageSize (length items)))))
+
+-- the image that a text gives
+unfoldable pub imageSaid : Text → List ℕ
+imageSaid (card cells items) = imageOf cells (wordsOf items)
+imageSaid (refused number place) = []
+
+-- the buffer afterwards: the image and the old bytes past it, or, after a refusal, what it was
+abbrev pub imported : Importing → Text → List ℕ → List ℕ
+imported (Imported size) said buffer = imageSaid said ++ drop size buffer
+imported (Refused number place) said buffer = buffer
+
+-- an answer, and the buffer that it leaves
+pub record Leaves (said : Text) (before : List ℕ) (answer : Importing) (after : List ℕ) : Type 0 where
+  pub answered : answer ≡ answerOf said (length before)
+  pub left : after ≡ imported (answerOf said (length before)) said before
+
+-- the promise of the call, for every text and buffer
+abbrev pub Imports : List ℕ → List ℕ → Importing → List ℕ → Type 0
+Imports text = Leaves (said text)

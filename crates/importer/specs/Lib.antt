@@ -1,0 +1,3 @@
+pub mod Forms
+pub mod Importing
+pub mod Coding
