@@ -1,32 +1,29 @@
 -- Laws of the whole: what header, lines and writer answer makes up the importer's answer. Assumes nothing.
 use Prim.Native.Nat.{ℕ, suc, _+_, _≤_, _<_}
 use mathlib.Core.Bool.{Bool, true, false, cond, _||_}
-use mathlib.Core.List.{List, [], _∷_, _++_}
+use mathlib.Core.List.{List, [], _∷_}
 use mathlib.Core.Logic.{_≢_}
 use mathlib.Core.Option.{Option, none, some}
 use mathlib.Core.Path.{_≡_, refl, sym, _∙_, ap}
 use native.Mathlib.Numerals.{add-one}
 use native.Mathlib.Omega.{arith}
-use borrow.Author.Tests.{eq-eqb, le-ltb, lt-ltb, ltb-false, ne-eqb}
+use borrow.Author.Tests.{eq-eqb, le-ltb, lt-ltb, ne-eqb}
 use lib.Dec.{ltb}
 use lib.ListN.{drop, length, take}
 use lib.Seq.{length-take-le, sets, sets-eq, take-append-seam}
-use Rattle.card.specs.Code.{firstBad}
 use Rattle.card.specs.Image.{imageSize, lastOf, outOfRange}
-use Rattle.card.specs.Writing.{Wrote, afterList, bufferOf, imageOf, writeOf}
-use Rattle.card.specs.declared.scan.Scan.{Scan}
-use Rattle.card.specs.declared.scan.Scan.the-variants.{Fine, Bad}
+use Rattle.card.specs.Writing.{Wrote, afterList, bufferOf, writeOf}
+use Rattle.card.specs.declared.scan.Scan.the-variants.{Bad}
 use Rattle.card.specs.declared.writer.Writing.{Writing}
 use Rattle.card.specs.declared.writer.Writing.the-variants as writing
 use Rattle.card.proofs.Header.{in-range, or-false}
 use Rattle.machine.proofs.Lists.{cases, less-or-not}
 use Rattle.digits.specs.Reading.{capped}
-use Rattle.digits.specs.declared.Decimal.the-variants as decimal
 use Rattle.digits.proofs.Walks.{capped-large, capped-small}
 use Rattle.words.specs.Words.{split, upTo}
-use Rattle.words.proofs.Cuts.{cut, parts, whole}
-use Rattle.importer.specs.Coding.{Stores, WroteCard, cardWriting, codedCells, codedHeader, codedItems, codedLines, codedWriting, stored, withLine}
-use Rattle.importer.specs.Forms.{Item, Lines, Text, bad, card, good, headed, headerRead, linesRead, refused, textRead, withCells}
+use Rattle.words.proofs.Cuts.{parts, whole}
+use Rattle.importer.specs.Coding.{Stores, WroteCard, codedCells, codedHeader, codedItems, codedLines, codedWriting, withLine}
+use Rattle.importer.specs.Forms.{Item, Lines, bad, card, good, headed, headerRead, linesRead, refused, textRead, withCells}
 use Rattle.importer.specs.Importing.{Imports, Leaves, afterRules, answerOf, firstAgainst, imageSaid, imported, said}
 use Rattle.importer.specs.declared.header.Header.the-variants as header
 use Rattle.importer.specs.declared.importing.Importing.{Importing}
@@ -137,7 +134,7 @@ pub record Header (text : List ℕ) (cells next : ℕ) : Type 0 where
   pub says : said text ≡ withCells g (linesRead 0 next (split 10 (drop next text)))
   pub inside : next ≤ length text
 
-text-cut : (l r : List ℕ) → textRead (l ∷ split 10 r) ≡ headed (headerRead (split 32 l)) (linesRead 0 (suc (length l)) (split 10 r))
+pub text-cut : (l r : List ℕ) → textRead (l ∷ split 10 r) ≡ headed (headerRead (split 32 l)) (linesRead 0 (suc (length l)) (split 10 r))
 unfolding textRead
 text-cut l r = let p = parts 10 r in rw (p .are)
 

@@ -1,14 +1,13 @@
 -- Laws of one line after the other: a loop that has come to a line finds what the whole reading finds. Assumes nothing.
-use Prim.Native.Nat.{ℕ, zero, suc, _+_, _-_, _≤_, _<_}
+use Prim.Native.Nat.{ℕ, suc, _+_, _-_, _≤_, _<_}
 use mathlib.Core.Bool.{Bool, true, false, cond}
 use mathlib.Core.List.{List, [], _∷_}
 use mathlib.Core.Path.{_≡_, refl, sym, _∙_, ap}
 use native.Mathlib.Omega.{arith}
 use native.Mathlib.Numerals.{add-one}
-use borrow.Author.Tests.{eqb-true}
 use lib.Dec.{eqb}
 use lib.ListN.{drop, drop-of-length-le, length, length-drop, length-set, set, take}
-use lib.Seq.{drop-cons, drop-drop, length-take-le, sets}
+use lib.Seq.{drop-drop, length-take-le}
 use Rattle.machine.proofs.Lists.{less-or-not}
 use Rattle.digits.specs.declared.Decimal.{Decimal}
 use Rattle.words.specs.Words.{split, upTo}
@@ -27,7 +26,7 @@ use Rattle.importer.proofs.Spelling.{cut-at}
 pub next-cut : (index at : ℕ) (l r : List ℕ) → nextRead index at (l ∷ split 10 r) ≡ withNext (codedLine (lineRead (split 32 l)) index) (at + suc (length l))
 next-cut index at l r = rw (parts 10 r .are)
 
-lines-cut : (index at : ℕ) (l r : List ℕ) → linesRead index at (l ∷ split 10 r) ≡ judged (lineRead (split 32 l)) index at (linesRead (suc index) (at + suc (length l)) (split 10 r))
+pub lines-cut : (index at : ℕ) (l r : List ℕ) → linesRead index at (l ∷ split 10 r) ≡ judged (lineRead (split 32 l)) index at (linesRead (suc index) (at + suc (length l)) (split 10 r))
 unfolding linesRead
 lines-cut index at l r = let p = parts 10 r in rw (p .are)
 

@@ -1,9 +1,9 @@
 -- Laws of the rules that instructions from a text are judged by: the writer's search over their words finds the same. Assumes nothing.
-use Prim.Native.Nat.{ℕ, suc, _+_, _-_, _*_, _/_, _%_, _≤_, _<_}
+use Prim.Native.Nat.{ℕ, suc, _+_, _-_, _*_, _%_, _<_}
 use mathlib.Core.Bool.{Bool, true, false, cond, _&&_}
 use mathlib.Core.List.{List, [], _∷_}
 use mathlib.Core.Option.{Option, none, some}
-use mathlib.Core.Path.{_≡_, refl, sym, _∙_, ap}
+use mathlib.Core.Path.{_≡_, refl, _∙_, ap}
 use native.Mathlib.Omega.{arith}
 use borrow.Author.Tests.{eqb-true, le-ltb, leb-true, lt-ltb}
 use lib.Dec.{eqb, leb, ltb}
@@ -11,7 +11,6 @@ use lib.IntN.{ℤ, pos, negsuc}
 use lib.ListN.{length}
 use Rattle.instruction.specs.Rules.{allows, checkOf, ruleOf}
 use Rattle.instruction.specs.Word.{opcodeOf, operandOf, signed24}
-use Rattle.instruction.specs.declared.Verdict.{Verdict}
 use Rattle.instruction.specs.declared.Verdict.the-variants as verdict
 use Rattle.card.specs.Code.{firstBad, orElse, scanOf}
 use Rattle.card.specs.declared.scan.Scan.{Scan}

@@ -3,3 +3,7 @@ pub mod Spelling
 pub mod Following
 pub mod Judged
 pub mod Cards
+pub mod Words
+pub mod Forth
+pub mod Back
+pub mod RoundTrip

@@ -1,26 +1,24 @@
 -- Laws of numbers in a text: a number that is capped tells the same, and digits have no separator. Assumes nothing.
-use Prim.Native.Nat.{ℕ, suc, _+_, _-_, _^_, _≤_, _<_}
+use Prim.Native.Nat.{ℕ, _-_, _^_, _≤_, _<_}
 use mathlib.Core.Bool.{Bool, true, false, cond, not, _&&_}
 use mathlib.Core.List.{List, [], _∷_}
 use mathlib.Core.Logic.{_≢_}
 use mathlib.Core.Option.{Option, none, some}
-use mathlib.Core.Path.{_≡_, refl, sym, _∙_, ap}
+use mathlib.Core.Path.{_≡_, refl, sym, _∙_}
 use native.Mathlib.Omega.{arith}
 use borrow.Author.Tests.{eq-eqb, eqb-true, le-leb, le-ltb, leb-true, lt-leb, lt-ltb, ne-eqb}
-use lib.Dec.{eqb, leb, ltb}
+use lib.Dec.{eqb, leb}
 use lib.IntN.{ℤ, pos, negsuc}
 use lib.ListN.{drop, getD, length}
-use Rattle.machine.proofs.Every.{and-true, true-and}
-use Rattle.machine.proofs.Lists.{cases, less-or-not, same-or-not}
+use Rattle.machine.proofs.Every.{and-true}
+use Rattle.machine.proofs.Lists.{less-or-not, same-or-not}
 use Rattle.digits.specs.Reading.{allDigits, capped, decimalOf, isDecimal, isDigit, valueOf}
-use Rattle.digits.specs.declared.Decimal.{Decimal}
 use Rattle.digits.specs.declared.Decimal.the-variants as decimal
 use Rattle.digits.proofs.Undone.{all-of, digit, value-less}
 use Rattle.digits.proofs.Walks.{capped-large, capped-small}
 use Rattle.words.specs.Words.{lacks}
 use Rattle.importer.specs.Coding.{addressRead, codedOperand, minusNumber, plainNumber}
-use Rattle.importer.specs.Forms.{isAddress, minusRead, operandRead, plainRead}
-use Rattle.importer.specs.Importing.{bitsOf, inBits}
+use Rattle.importer.specs.Forms.{minusRead, operandRead, plainRead}
 use Rattle.importer.specs.declared.lines.Address.the-variants as address
 use Rattle.importer.specs.declared.operands.Operand.the-variants as operand
 

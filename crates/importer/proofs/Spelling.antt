@@ -1,6 +1,6 @@
 -- Laws of names and operands in a line: what is found word by word is what the words spell. Assumes nothing.
 use Prim.Native.Nat.{ℕ, _+_, _-_, _*_, _≤_, _<_}
-use mathlib.Core.Bool.{Bool, true, false, cond, not, _&&_}
+use mathlib.Core.Bool.{Bool, true, false, cond}
 use mathlib.Core.List.{List, [], _∷_}
 use mathlib.Core.Logic.{_≢_}
 use mathlib.Core.Option.{Option, none, some}
@@ -8,7 +8,7 @@ use mathlib.Core.Path.{_≡_, refl, sym, _∙_, ap}
 use native.Mathlib.Omega.{arith}
 use native.Mathlib.Numerals.{add-one}
 use borrow.Author.Tests.{eq-eqb, ne-eqb}
-use lib.IntN.{ℤ, pos, negsuc}
+use lib.IntN.{ℤ}
 use lib.ListN.{drop, length, take}
 use lib.Seq.{take-length}
 use Rattle.instruction.specs.Rules.{ruleOf}
@@ -23,7 +23,7 @@ use Rattle.names.specs.declared.Named.{Named}
 use Rattle.names.specs.declared.Named.the-variants.{Opcode, Unknown}
 use Rattle.lister.specs.Text.{cellsWord}
 use Rattle.importer.specs.Coding.{addressRead, coded, codedCells, codedEntry, codedLine, codedOperand, placedLine}
-use Rattle.importer.specs.Forms.{Item, Line, addressed, bareItem, fullItem, headerRead, isAddress, itemRead, lineRead, operandRead, right, wrong}
+use Rattle.importer.specs.Forms.{Item, addressed, bareItem, fullItem, headerRead, isAddress, itemRead, lineRead, operandRead, right, wrong}
 use Rattle.importer.specs.Importing.{bitsOf, inBits}
 use Rattle.importer.specs.declared.items.Entry.the-variants as entry
 use Rattle.importer.specs.declared.lines.Address.{Address}

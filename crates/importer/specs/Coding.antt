@@ -1,6 +1,6 @@
 -- What the importer's inner functions answer: the definitions of Forms as the code's enums hold them, operands as bits and instructions as words.
-use Prim.Native.Nat.{ℕ, suc, _+_, _-_, _*_}
-use mathlib.Core.Bool.{cond, _&&_}
+use Prim.Native.Nat.{ℕ, suc, _+_, _-_}
+use mathlib.Core.Bool.{cond}
 use mathlib.Core.List.{List, [], _∷_}
 use mathlib.Core.Option.{Option, none, some}
 use mathlib.Core.Path.{_≡_}
@@ -11,7 +11,7 @@ use lib.Seq.{sets}
 use Rattle.card.specs.Writing.{bufferOf, writeOf}
 use Rattle.card.specs.declared.writer.Writing.{Writing}
 use Rattle.card.specs.declared.writer.Writing.the-variants as writing
-use Rattle.digits.specs.Reading.{allDigits, capped, valueOf}
+use Rattle.digits.specs.Reading.{capped, valueOf}
 use Rattle.digits.specs.declared.Decimal.{Decimal}
 use Rattle.digits.specs.declared.Decimal.the-variants as decimal
 use Rattle.words.specs.Words.{split}

@@ -1,3 +1,4 @@
 pub mod Forms
 pub mod Importing
 pub mod Coding
+pub mod RoundTrip

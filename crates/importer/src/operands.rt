@@ -1,7 +1,5 @@
 // Operands in a text. Inner.
-ghost use Prim.Native.Nat.{_≤_};
 ghost use mathlib.Core.Path.{_≡_};
-ghost use Rattle.digits.specs.Reading.{capped};
 ghost use Rattle.importer.specs.Coding.{codedOperand, minusNumber, plainNumber};
 ghost use Rattle.importer.specs.Forms.{minusRead, operandRead, plainRead};
 use digits::Decimal;

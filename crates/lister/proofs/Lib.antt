@@ -3,3 +3,4 @@ pub mod Held
 pub mod Filled
 pub mod Spelled
 pub mod Listed
+pub mod Whole

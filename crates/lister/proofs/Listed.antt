@@ -1,13 +1,12 @@
 -- Laws of listing one line: what the answer is, and what it leaves. Assumes nothing.
 use Prim.Native.Nat.{ℕ, zero, suc, _+_, _-_, _*_, _≤_, _<_}
 use mathlib.Core.Bool.{Bool, true, false, cond}
-use mathlib.Core.List.{List, [], _∷_, _++_}
+use mathlib.Core.List.{List, _++_}
 use mathlib.Core.Logic.{_≢_}
 use mathlib.Core.Path.{_≡_, refl, sym, _∙_, ap}
 use native.Mathlib.Omega.{arith}
 use borrow.Author.Tests.{le-ltb, leb-false, leb-true, lt-ltb}
-use lib.Dec.{ltb}
-use lib.ListN.{drop, length, length-append}
+use lib.ListN.{drop, length}
 use lib.Seq.{sets, sets-eq}
 use Rattle.instruction.specs.Bytes.{wordAt}
 use Rattle.card.specs.Image.{Headed, cellsOf, countOf, readOf}
@@ -16,7 +15,7 @@ use Rattle.card.proofs.Header.{accepts, headed}
 use Rattle.text.specs.Lines.{line}
 use Rattle.words.specs.Words.{bytes}
 use Rattle.lister.specs.Filling.{filled, hasRoom, lineText, reached}
-use Rattle.lister.specs.Listing.{Leaves, Lists, contentOf, imageLine, lineOf, listOf, listed}
+use Rattle.lister.specs.Listing.{Leaves, Lists, contentOf, imageLine, lineOf, listOf}
 use Rattle.lister.specs.declared.listing.Listing.the-variants.{Written, Past, Refused}
 
 -- ---- what a line shows

@@ -1,7 +1,7 @@
 -- The call that lists one line of a card: "Refusals: listing 1 to 5; .. 43 at 0, last, no room for the line".
 use Prim.Native.Nat.{ℕ, zero, suc, _+_, _*_}
 use mathlib.Core.Bool.{cond}
-use mathlib.Core.List.{List, _++_}
+use mathlib.Core.List.{List, [], _++_}
 use mathlib.Core.Path.{_≡_}
 use lib.Dec.{ltb}
 use lib.ListN.{drop, length}
@@ -10,6 +10,7 @@ use Rattle.card.specs.Image.{cellsOf, countOf, headerSize, readOf}
 use Rattle.card.specs.declared.reader.Reading.{Reading}
 use Rattle.card.specs.declared.reader.Reading.the-variants as reading
 use Rattle.lister.specs.Filling.{lineText}
+use Rattle.lister.specs.Text.{listingOf}
 use Rattle.lister.specs.declared.listing.Listing.{Listing}
 use Rattle.lister.specs.declared.listing.Listing.the-variants.{Written, Past, Refused}
 
@@ -51,3 +52,12 @@ pub record Leaves (expected : Listing) (image : List ℕ) (line : ℕ) (before :
 -- the promise of the call, for every image, line and buffer
 abbrev pub Lists : List ℕ → ℕ → List ℕ → Listing → List ℕ → Type 0
 Lists image line before = Leaves (listOf image line (length before)) image line before
+
+-- so many lines of an image, from a line on
+unfoldable pub linesFrom : List ℕ → ℕ → ℕ → List ℕ
+linesFrom image line zero = []
+linesFrom image line (suc count) = imageLine image line ++ linesFrom image (suc line) count
+
+-- "line by line": the lines 0 to n of an image that is accepted, one after the other, are its listing. The proof is in proofs/Whole.antt
+abbrev pub LinesAreListing : Type 0
+LinesAreListing = (cells : ℕ) (image : List ℕ) → readOf image ≡ reading.Accepted cells → linesFrom image 0 (suc (countOf image)) ≡ listingOf image
