@@ -4,7 +4,7 @@ mod asm;
 mod damage;
 mod limits;
 mod program;
-mod random;
+pub(crate) mod random;
 mod scenes;
 mod soup;
 

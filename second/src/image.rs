@@ -1,4 +1,5 @@
-//! The card image: the instructions, the operands they allow, and the reader with its refusals.
+//! The card image: the instructions, the operands they allow, the reader with its refusals, and the
+//! bytes of an image.
 
 /// At most so many instructions on a card, and at most so many global cells.
 pub const LIMIT: usize = 4096;
@@ -95,7 +96,15 @@ impl Op {
         format!("{:?}", self).to_lowercase()
     }
 
-    /// Is the operand `k` allowed on a card of `n` instructions?
+    /// Does the paper name an operand of it? Elsewhere the operand is 0 and isn't written in a text.
+    pub fn has_operand(self) -> bool {
+        matches!(
+            self,
+            Op::Loadc | Op::Loadr | Op::Storer | Op::Alloc | Op::Jump | Op::Jumpz
+        )
+    }
+
+    /// Is the operand `k`, a number of 24 bits, allowed on a card of `n` instructions?
     pub fn allows(self, k: i32, n: usize) -> bool {
         match self {
             Op::Loadc => true,
@@ -121,7 +130,8 @@ pub struct Card {
     pub code: Vec<Instruction>,
 }
 
-/// A refusal: the paper's number 1 to 5, and the place in the image.
+/// A refusal: the papers' number, and the place: a byte of the image or of the text, or for 5 in a
+/// text the instruction's index.
 #[derive(Clone, Copy, PartialEq, Eq, Debug)]
 pub struct Refusal {
     pub number: u8,
@@ -172,4 +182,20 @@ pub fn read(image: &[u8]) -> Result<Card, Refusal> {
         code.push(Instruction { op, k });
     }
     Ok(Card { globals, code })
+}
+
+/// The bytes of an image, by the format alone: nothing is tested. The instructions are opcode bytes
+/// and operands, of which the lower 24 bits go in.
+pub fn encode(globals: usize, code: impl ExactSizeIterator<Item = (u8, i32)>) -> Vec<u8> {
+    let n = code.len();
+    let mut image = Vec::with_capacity(9 + 4 * n);
+    image.extend(((5 + 4 * n) as u32).to_be_bytes());
+    image.push(1);
+    image.extend((globals as u16).to_be_bytes());
+    image.extend((n as u16).to_be_bytes());
+    for (opcode, k) in code {
+        image.push(opcode);
+        image.extend(&k.to_be_bytes()[1..]);
+    }
+    image
 }

@@ -1,7 +1,7 @@
-//! What is printed: the runner's line, the state line, a listing of a card; and the framing of a
-//! stream of images. README.md says the same formats in words.
+//! What is printed of a run: the runner's line and the state line; and the framing of a stream of
+//! images or texts. README.md says the same formats in words.
 
-use crate::machine::{read, Machine, Mistake, Op, Refusal, State, SHARED, STACK, THREADS};
+use crate::machine::{read, Machine, Mistake, Refusal, State, SHARED, STACK, THREADS};
 use std::collections::VecDeque;
 use std::fmt::Write as _;
 use std::io::{self, Read, Write};
@@ -24,7 +24,7 @@ pub fn runner_line(input: &[u8], mistake: Option<Mistake>) -> String {
     }
 }
 
-/// The line for a refused image.
+/// The line for a refused image or text, without the line feed.
 pub fn refusal_line(refusal: Refusal) -> String {
     format!("refused {} {}", refusal.number, refusal.place)
 }
@@ -156,41 +156,20 @@ pub fn trace(
     }
 }
 
-/// A card as text: one line for the header and one for each instruction; or its refusal.
-pub fn listing(image: &[u8]) -> String {
-    match read(image) {
-        Err(refusal) => format!("{} of {} bytes\n", refusal_line(refusal), image.len()),
-        Ok(card) => {
-            let mut text = format!("g {} n {}\n", card.globals, card.code.len());
-            for (i, instruction) in card.code.iter().enumerate() {
-                let _ = write!(text, "{i:5}  {}", instruction.op.name());
-                if matches!(
-                    instruction.op,
-                    Op::Loadc | Op::Loadr | Op::Storer | Op::Alloc | Op::Jump | Op::Jumpz
-                ) {
-                    let _ = write!(text, " {}", instruction.k);
-                }
-                text.push('\n');
-            }
-            text
-        }
-    }
+/// Writes one image or text of a stream: its length in 4 bytes, big-endian, then its bytes.
+pub fn write_frame(out: &mut dyn Write, bytes: &[u8]) -> io::Result<()> {
+    out.write_all(&(bytes.len() as u32).to_be_bytes())?;
+    out.write_all(bytes)
 }
 
-/// Writes one image of a stream: its length in 4 bytes, big-endian, then the image.
-pub fn write_frame(out: &mut dyn Write, image: &[u8]) -> io::Result<()> {
-    out.write_all(&(image.len() as u32).to_be_bytes())?;
-    out.write_all(image)
-}
-
-/// Reads the next image of a stream, or nothing at its end.
+/// Reads the next image or text of a stream, or nothing at its end.
 pub fn read_frame(input: &mut dyn Read) -> io::Result<Option<Vec<u8>>> {
     let mut length = [0; 4];
     match input.read(&mut length[..1])? {
         0 => return Ok(None),
         _ => input.read_exact(&mut length[1..])?,
     }
-    let mut image = vec![0; u32::from_be_bytes(length) as usize];
-    input.read_exact(&mut image)?;
-    Ok(Some(image))
+    let mut bytes = vec![0; u32::from_be_bytes(length) as usize];
+    input.read_exact(&mut bytes)?;
+    Ok(Some(bytes))
 }

@@ -1,6 +1,7 @@
 //! A small assembler: labels, shared cells with names, and a few short phrases of instructions.
 
 use super::random::Random;
+use crate::image::encode;
 use crate::machine::{Op, LIMIT};
 
 /// A place in the code, used before or after it is known.
@@ -27,17 +28,8 @@ pub struct Code {
 impl Code {
     /// The card's image.
     pub fn image(&self) -> Vec<u8> {
-        let n = self.list.len();
-        let mut image = Vec::with_capacity(9 + 4 * n);
-        image.extend(((5 + 4 * n) as u32).to_be_bytes());
-        image.push(1);
-        image.extend((self.globals as u16).to_be_bytes());
-        image.extend((n as u16).to_be_bytes());
-        for &(op, k) in &self.list {
-            image.push(op as u8);
-            image.extend(&k.to_be_bytes()[1..]);
-        }
-        image
+        let code = self.list.iter().map(|&(op, k)| (op as u8, k));
+        encode(self.globals, code)
     }
 }
 

@@ -1,5 +1,8 @@
 //! A tiny assembler for the tests: "loadc 7, exit" becomes an image with one global cell.
 
+// Each test file uses a part of it.
+#![allow(dead_code)]
+
 use second::machine::{read, Machine, Op};
 use second::text::runner_line;
 
