@@ -1,10 +1,10 @@
--- `imports::put_image` is safe and ends. The measure is the number of bytes that are left. Assumes nothing.
+-- `print::put_all` is safe and ends. The measure is the number of bytes that are left. Assumes nothing.
 use Prim.Native.Nat.{_-_}
 use mathlib.Core.Path.{_≡_}
 use borrow.Author.Needs.{needs}
 use lib.ListN.{length}
-use Rattle.imports.proofs.put_image.Statement.{statement}
-use Rattle.imports.proofs.put_image.Tie as tie
+use Rattle.print.proofs.put_all.Statement.{statement}
+use Rattle.print.proofs.put_all.Tie as tie
 
 abbrev Inv-loop : tie.InvT-loop
 Inv-loop out₀ image i₀ out i = length out ≡ length out₀
@@ -15,14 +15,14 @@ abbrev μ-loop : tie.MeasureT-loop
 loop-holds : tie.Need-loop-holds Inv-loop μ-loop
 loop-holds c = search needs
 
-mul-put-byte : tie.Need-mul-put-byte Inv-loop μ-loop
-mul-put-byte c = search needs
+mul-put-hex : tie.Need-mul-put-hex Inv-loop μ-loop
+mul-put-hex c = search needs
 
-shared-slice-read-put-byte : tie.Need-shared-slice-read-put-byte Inv-loop μ-loop
-shared-slice-read-put-byte c = search needs
+shared-slice-read-put-hex : tie.Need-shared-slice-read-put-hex Inv-loop μ-loop
+shared-slice-read-put-hex c = search needs
 
-put-byte-requires : tie.Need-put-byte-requires Inv-loop μ-loop
-put-byte-requires c κs = search needs
+put-hex-requires : tie.Need-put-hex-requires Inv-loop μ-loop
+put-hex-requires c κs = search needs
 
 add-i : tie.Need-add-i Inv-loop μ-loop
 add-i c = search needs
@@ -39,16 +39,16 @@ same-length c = search needs
 returns : tie.Need-returns Inv-loop μ-loop
 returns c = search needs
 
-pub put-image-spec : {M : Type 1} → statement M
-put-image-spec =
+pub put-all-spec : {M : Type 1} → statement M
+put-all-spec =
     tie.close
     (tie.spec
     Inv-loop
     μ-loop
     loop-holds
-    mul-put-byte
-    shared-slice-read-put-byte
-    put-byte-requires
+    mul-put-hex
+    shared-slice-read-put-hex
+    put-hex-requires
     add-i
     loop-less
     loop-again

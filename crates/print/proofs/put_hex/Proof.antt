@@ -1,9 +1,9 @@
--- `imports::put_byte` is safe. Assumes nothing.
+-- `print::put_hex` is safe. Assumes nothing.
 use native.Mathlib.Omega.{arith}
 use borrow.Author.Needs.{needs}
 use lib.ListN.{length-set}
-use Rattle.imports.proofs.put_byte.Statement.{statement}
-use Rattle.imports.proofs.put_byte.Tie as tie
+use Rattle.print.proofs.put_hex.Statement.{statement}
+use Rattle.print.proofs.put_hex.Tie as tie
 
 array-read-out : tie.Need-array-read-out
 array-read-out c = search needs
@@ -26,8 +26,8 @@ same-length c = search needs
 returns : tie.Need-returns
 returns c = search needs
 
-pub put-byte-spec : {M : Type 1} → statement M
-put-byte-spec =
+pub put-hex-spec : {M : Type 1} → statement M
+put-hex-spec =
     tie.close
     (tie.spec
     array-read-out
