@@ -14,7 +14,7 @@ const COUNT: usize = 38;
 const WIDTH: usize = 10;
 
 // In the order of the opcodes, from 0.
-const TABLE: [u8; 380] =
+pub const TABLE: [u8; 380] =
     *b"halt      loadc     load      store     loadr     storer    alloc     pop       dup       add       sub       mul       div       mod       neg       eq        neq       less      leq       not       jump      jumpz     mark      call      return    new       create    yield     exit      join      finalize  newmutex  lock      unlock    newcond   wait      signal    broadcast ";
 
 // What a word names.

@@ -3,7 +3,7 @@
 mod assembler;
 mod calls;
 mod images;
-mod names;
+mod opcodes;
 mod show;
 
 use libc::STDIN_FILENO;

@@ -1,4 +1,4 @@
-// The names of the instructions.
+// The opcode of a name in the text of the sessions.
 
 // What no name stands for.
 const UNKNOWN: u32 = 255;
@@ -28,6 +28,9 @@ impl Search {
     }
 
     fn take(mut self, b: u8) -> Self {
+        if b == b' ' && self.name == 0 {
+            return self;
+        }
         if b == b' ' {
             return self.next();
         }
@@ -36,7 +39,7 @@ impl Search {
     }
 }
 
-// The place of a name among names that each end with a space.
+// The place of a name among names that each have spaces behind them.
 fn place(wanted: u64, names: &[u8]) -> u32 {
     let mut search = Search {
         wanted,
@@ -52,10 +55,7 @@ fn place(wanted: u64, names: &[u8]) -> u32 {
     search.found
 }
 
-// The opcode of a name. The names stand in the order of their opcodes, 0 to 37.
+// The opcode of a name.
 pub fn opcode_of(name: u64) -> u32 {
-    place(
-        name,
-        b"halt loadc load store loadr storer alloc pop dup add sub mul div mod neg eq neq less leq not jump jumpz mark call return new create yield exit join finalize newmutex lock unlock newcond wait signal broadcast ",
-    )
+    place(name, &names::TABLE)
 }

@@ -1,9 +1,9 @@
--- `sessions::names::place`: the loop ends. Assumes nothing.
+-- `sessions::opcodes::place`: the loop ends. Assumes nothing.
 use Prim.Native.Nat.{_-_}
 use borrow.Author.Needs.{needs}
 use lib.ListN.{length}
-use Rattle.sessions.proofs.names.place.Statement.{statement}
-use Rattle.sessions.proofs.names.place.Tie as tie
+use Rattle.sessions.proofs.opcodes.place.Statement.{statement}
+use Rattle.sessions.proofs.opcodes.place.Tie as tie
 
 abbrev Inv-loop : tie.InvT-loop
 Inv-loop wanted names search₀ i₀ search i = Unit
