@@ -1,7 +1,8 @@
-/* A machine inside a C program: makes a card, sets it up, runs it in slices of 100 steps, prints the queues after each, and has a damaged
- * card refused. */
+/* A machine inside a C program: makes a card, sets it up, runs it in slices of 100 steps, prints the queues after each, lists its
+ * text and imports that again, and has a damaged card refused. */
 #include <inttypes.h>
 #include <stdio.h>
+#include <string.h>
 
 #include "leprahoon.h"
 
@@ -39,6 +40,8 @@ static int32_t values[LEPRAHOON_VALUES];
 static uint64_t registers[LEPRAHOON_REGISTERS];
 static uint64_t report[LEPRAHOON_REPORT];
 static uint8_t image[LEPRAHOON_IMAGE];
+static uint8_t text[LEPRAHOON_TEXT];
+static uint8_t again[LEPRAHOON_IMAGE];
 
 /* A queue: those of the line whose place it is. */
 static void print_queue(const char *name, uint64_t place) {
@@ -52,6 +55,16 @@ static void print_queue(const char *name, uint64_t place) {
         }
     }
     printf("]");
+}
+
+/* The card's text, line by line; gives its length. */
+static uint64_t list_all(uint64_t size) {
+    uint64_t length = 0, line = 0, said[3];
+    do {
+        leprahoon_list(image, size, line++, text + length, sizeof text - length, said);
+        length += said[2];
+    } while (said[2] != 0);
+    return length;
 }
 
 static const char *const STATES[] = {"halted", "running", "stuck", "faulted", "refused"};
@@ -77,6 +90,15 @@ int main(void) {
         printf(" cell 1: %" PRId32 "\n", store[1]);
     }
     printf("thread 0 ended with %" PRId32 "\n", values[0]);
+
+    uint64_t length = list_all(size);
+    printf("the text has %" PRIu64 " bytes and begins %.*s", length, 22, (const char *)text);
+    leprahoon_import(text, length, again, sizeof again, made);
+    printf("imported again it is %s\n", made[2] == size && memcmp(again, image, size) == 0 ? "the same card" : "another card");
+    leprahoon_import(text, length, again, size - 1, made);
+    printf("with a byte of room too few: %" PRIu64 " at %" PRIu64 "\n", made[0], made[1]);
+    leprahoon_list(image, size, 0, text, 7, made);
+    printf("its header in 7 bytes: %" PRIu64 " at %" PRIu64 "\n", made[0], made[1]);
 
     image[4] = 2; /* another version */
     leprahoon_run(image, size, store, LEPRAHOON_STORE, tables, LEPRAHOON_TABLES, values, LEPRAHOON_VALUES, registers, 100, report);

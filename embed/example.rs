@@ -9,6 +9,8 @@ extern "C" {
         values: *mut i32, values_length: u64, registers: *mut u64, steps: u64, report: *mut u64,
     );
     fn leprahoon_write(cells: u64, list: *const u32, list_length: u64, out: *mut u8, out_length: u64, report: *mut u64);
+    fn leprahoon_list(image: *const u8, image_length: u64, line: u64, out: *mut u8, out_length: u64, report: *mut u64);
+    fn leprahoon_import(text: *const u8, text_length: u64, out: *mut u8, out_length: u64, report: *mut u64);
 }
 
 // The memory that a machine is lent. The sizes, the places and the order of the registers are those of leprahoon.h.
@@ -59,6 +61,39 @@ fn write(cells: u64, list: &[u32]) -> Result<Vec<u8>, (u64, u64)> {
         return Err((report[0], report[1]));
     }
     Ok(out)
+}
+
+// A line of a card's text to the start of a buffer: its length, 0 past the last.
+fn list(image: &[u8], line: u64, out: &mut [u8]) -> Result<usize, (u64, u64)> {
+    let mut report = [0; 3];
+    unsafe { leprahoon_list(image.as_ptr(), image.len() as u64, line, out.as_mut_ptr(), out.len() as u64, report.as_mut_ptr()) }
+    if report[0] != 0 {
+        return Err((report[0], report[1]));
+    }
+    Ok(report[2] as usize)
+}
+
+// The image of a text to the start of a buffer: its size.
+fn import(text: &[u8], out: &mut [u8]) -> Result<usize, (u64, u64)> {
+    let mut report = [0; 3];
+    unsafe { leprahoon_import(text.as_ptr(), text.len() as u64, out.as_mut_ptr(), out.len() as u64, report.as_mut_ptr()) }
+    if report[0] != 0 {
+        return Err((report[0], report[1]));
+    }
+    Ok(report[2] as usize)
+}
+
+// A card's text, line by line.
+fn list_all(image: &[u8]) -> Vec<u8> {
+    let mut text = Vec::new();
+    let mut line = [0; 20];
+    for number in 0.. {
+        match list(image, number, &mut line) {
+            Ok(length) if length > 0 => text.extend_from_slice(&line[..length]),
+            _ => break,
+        }
+    }
+    text
 }
 
 const LOADC: u32 = 1;
@@ -125,6 +160,19 @@ fn main() {
         );
     }
     println!("thread 0 ended with {}", machine.values[0]);
+
+    let text = list_all(&image);
+    let start = String::from_utf8_lossy(&text[..22]);
+    print!("the text has {} bytes and begins {start}", text.len());
+    let mut again = vec![0; image.len()];
+    let same = import(&text, &mut again) == Ok(image.len()) && again == image;
+    println!("imported again it is {}", if same { "the same card" } else { "another card" });
+    if let Err((number, place)) = import(&text, &mut again[1..]) {
+        println!("with a byte of room too few: {number} at {place}");
+    }
+    if let Err((number, place)) = list(&image, 0, &mut again[..7]) {
+        println!("its header in 7 bytes: {number} at {place}");
+    }
 
     image[4] = 2; // another version
     machine.run(&image, 100);

@@ -6,7 +6,7 @@
  * A length may be 0; the pointer must not be null even then.
  *
  * The library is for x86-64 Linux. It uses memcpy and memset, no other function, no heap and no global memory. leprahoon_line needs
- * about 40 KiB of stack, the others under 4 KiB. */
+ * about 40 KiB of stack, leprahoon_import about 20 KiB, the others under 4 KiB. */
 #ifndef LEPRAHOON_H
 #define LEPRAHOON_H
 
@@ -24,7 +24,8 @@ enum {
     LEPRAHOON_REGISTERS = 10,  /* uint64_t */
     LEPRAHOON_REPORT = 4,      /* uint64_t */
     LEPRAHOON_LINE = 90,       /* uint8_t: room for every runner's line */
-    LEPRAHOON_IMAGE = 16393    /* uint8_t: the longest card image */
+    LEPRAHOON_IMAGE = 16393,   /* uint8_t: the longest card image */
+    LEPRAHOON_TEXT = 81931     /* uint8_t: the longest text of a card */
 };
 
 /* The registers, by index. */
@@ -96,6 +97,18 @@ void leprahoon_read(const uint8_t *image, uint64_t image_length, uint64_t *repor
  * bits: report is the number and the place of a refusal and 0, or 0, 0 and the image's size. Bytes past the image stay. */
 void leprahoon_write(uint64_t cells, const uint32_t *list, uint64_t list_length, uint8_t *out, uint64_t out_length,
                      uint64_t *report /* 3: number, place, size */);
+
+/* Writes a line of a card's text: line 0 is the header, line i + 1 that of instruction i. report is the number and the place of a refusal
+ * and 0 (1 to 5 as leprahoon_read, then 43 where there is no room for the whole line), or 0, 0 and the line's length with its line feed,
+ * which is 0 past the last line. Bytes past the line stay. */
+void leprahoon_list(const uint8_t *image, uint64_t image_length, uint64_t line, uint8_t *out, uint64_t out_length,
+                    uint64_t *report /* 3: number, place, length */);
+
+/* Writes the image of the card whose text is given: report is the number and the place of a refusal and 0 (40 to 42 with the line's first
+ * byte, then 3 and 5 as leprahoon_write, then 43 where there is no room for the image), or 0, 0 and the image's size. Bytes past the
+ * image stay. */
+void leprahoon_import(const uint8_t *text, uint64_t text_length, uint8_t *out, uint64_t out_length,
+                      uint64_t *report /* 3: number, place, size */);
 
 /* Runs a card as the runner does, at most 1,000,000 steps, and writes its line. Gives the line's length with its line feed, or 0 where
  * the buffer has under 90 bytes. */

@@ -2,6 +2,7 @@
 mod calls;
 mod cards;
 mod lists;
+mod texts;
 
 pub use calls::leprahoon_run;
 pub use calls::leprahoon_set_up;
@@ -9,3 +10,5 @@ pub use calls::leprahoon_step;
 pub use cards::leprahoon_line;
 pub use cards::leprahoon_read;
 pub use cards::leprahoon_write;
+pub use texts::leprahoon_import;
+pub use texts::leprahoon_list;

@@ -1,0 +1,26 @@
+-- `leprahoon::texts::leprahoon_import` meets its contract. Assumes nothing.
+use mathlib.Core.Path.{ap, _∙_}
+use borrow.Author.Needs.{needs}
+use Rattle.leprahoon.specs.Lists.{importList}
+use Rattle.leprahoon.proofs.texts.leprahoon_import.Statement.{statement}
+use Rattle.leprahoon.proofs.texts.leprahoon_import.Tie as tie
+
+import-requires : tie.Need-import-requires
+import-requires c κs = search needs
+
+list-of-importing-requires : tie.Need-list-of-importing-requires
+list-of-importing-requires c κs = search needs
+
+same-length : tie.Need-same-length
+same-length c = search needs
+
+returns : tie.Need-returns
+returns c =
+    record {
+      reported = c .list-of-importing .ensures ∙ ap importList (c .before .before .before .import .ensures .answered);
+      left = c .before .before .before .import .ensures .left;
+    }
+
+pub leprahoon-import-spec : {M : Type 1} → statement M
+leprahoon-import-spec =
+    tie.close (tie.spec import-requires list-of-importing-requires same-length returns)
