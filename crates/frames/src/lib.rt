@@ -1,4 +1,4 @@
-// A framed stream on standard input: one image after the other, each behind its length in 4 bytes, big-endian. Inner: for the programs
+// A framed stream on standard input: one image, or text, after the other, each behind its length in 4 bytes, big-endian. Inner: for the programs
 // that are compared with the second program.
 use libc::STDIN_FILENO;
 

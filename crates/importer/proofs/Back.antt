@@ -16,6 +16,7 @@ use Rattle.machine.proofs.Every.{and-true}
 use Rattle.digits.specs.Reading.{isDecimal, valueOf}
 use Rattle.digits.proofs.Undone.{reads-back}
 use Rattle.words.specs.Words.{join, same, split}
+use Rattle.words.proofs.Clash.{impossible}
 use Rattle.words.proofs.Cuts.{join-split, same-is}
 use Rattle.names.specs.Names.{hasOperand, nameOf, opcodeNamed}
 use Rattle.names.specs.declared.Named.{Named}
@@ -34,16 +35,16 @@ abbrev Written : List (List ℕ) → Item → Type 0
 Written words item = words ≡ nameOf (item .opcode) ∷ cond (hasOperand (ruleOf (item .opcode))) (signed (item .operand) ∷ []) []
 
 bare-back : (name : List ℕ) (n : Named) (item : Item) → opcodeNamed name ≡ n → bareItem n ≡ some item → Written (name ∷ []) item
-bare-back name Unknown item e q = absurd (let z : _≡_ {A = ℕ} 0 1 = cc in omega arith)
+bare-back name Unknown item e q = impossible cc
 bare-back name (Opcode opcode) item e q = by (hasOperand (ruleOf opcode)) refl q
   where
     by : (t : Bool) → hasOperand (ruleOf opcode) ≡ t → cond t none (some (record { opcode = opcode; operand = pos 0 })) ≡ some item → Written (name ∷ []) item
-    by true t r = absurd (let z : _≡_ {A = ℕ} 0 1 = cc in omega arith)
+    by true t r = impossible cc
     by false t r = let same : opcode ≡ item .opcode = cc in rw (← same, t, named-is name opcode e .1)
 
 full-back : (name k : List ℕ) (n : Named) (o : Option ℤ) (item : Item) → inBits (item .operand) ≡ true → opcodeNamed name ≡ n → operandRead k ≡ o → fullItem n o ≡ some item → Written (name ∷ k ∷ []) item
-full-back name k Unknown o item fits e p q = absurd (let z : _≡_ {A = ℕ} 0 1 = cc in omega arith)
-full-back name k (Opcode opcode) none item fits e p q = absurd (let z : _≡_ {A = ℕ} 0 1 = cc in omega arith)
+full-back name k Unknown o item fits e p q = impossible cc
+full-back name k (Opcode opcode) none item fits e p q = impossible cc
 full-back name k (Opcode opcode) (some z) item fits e p q = by (hasOperand (ruleOf opcode)) refl q
   where
     by : (t : Bool) → hasOperand (ruleOf opcode) ≡ t → cond t (some (record { opcode = opcode; operand = z })) none ≡ some item → Written (name ∷ k ∷ []) item
@@ -52,14 +53,14 @@ full-back name k (Opcode opcode) (some z) item fits e p q = by (hasOperand (rule
         let number : z ≡ item .operand = cc in
         let text : signed (item .operand) ≡ k = operand-back k (item .operand) (p ∙ ap some number) (told (item .operand) fits) in
         rw (← same, t, named-is name opcode e .1, text)
-    by false t r = absurd (let y : _≡_ {A = ℕ} 0 1 = cc in omega arith)
+    by false t r = impossible cc
 
 item-back : (words : List (List ℕ)) (item : Item) → inBits (item .operand) ≡ true → itemRead words ≡ some item → Written words item
 unfolding itemRead
-item-back [] item fits e = absurd (let z : _≡_ {A = ℕ} 0 1 = cc in omega arith)
+item-back [] item fits e = impossible cc
 item-back (name ∷ []) item fits e = bare-back name (opcodeNamed name) item refl e
 item-back (name ∷ k ∷ []) item fits e = full-back name k (opcodeNamed name) (operandRead k) item fits refl refl e
-item-back (name ∷ k ∷ l ∷ more) item fits e = absurd (let z : _≡_ {A = ℕ} 0 1 = cc in omega arith)
+item-back (name ∷ k ∷ l ∷ more) item fits e = impossible cc
 
 -- ---- a line
 
@@ -86,13 +87,13 @@ allowed last index item items e = by (inBits (item .operand)) refl (allows (rule
   where
     by : (t : Bool) → inBits (item .operand) ≡ t → (u : Bool) → cond (t && u) (firstAgainst last (suc index) items) (some index) ≡ none → Allowed last index item items
     by true t true q = record { fits = t; others = q }
-    by true t false q = absurd (let z : _≡_ {A = ℕ} 0 1 = cc in omega arith)
-    by false t u q = absurd (let z : _≡_ {A = ℕ} 0 1 = cc in omega arith)
+    by true t false q = impossible cc
+    by false t u q = impossible cc
 
 last-back : (last : List ℕ) (index place : ℕ) (items : List Item) → lastRead last place ≡ good items → last ≡ instructionLines index (wordsOf items)
 unfolding instructionLines wordsOf
 last-back [] index place items e = let same : [] ≡ items = cc in rw (← same)
-last-back (b ∷ rest) index place items e = absurd (let z : _≡_ {A = ℕ} 0 1 = cc in omega arith)
+last-back (b ∷ rest) index place items e = impossible cc
 
 pub lines-back : (last : ℤ) (ls : List (List ℕ)) (index place : ℕ) (items : List Item) → AllNamed items → firstAgainst last index items ≡ none → linesRead index place ls ≡ good items → join 10 ls ≡ instructionLines index (wordsOf items)
 unfolding instructionLines join linesRead wordsOf
@@ -116,8 +117,8 @@ unfolding headerRead
 cells-back l g h e = by (split 32 l) refl e
   where
     by : (words : List (List ℕ)) → split 32 l ≡ words → headerRead words ≡ some g → l ++ 10 ∷ [] ≡ headerLine g
-    by [] p q = absurd (let z : _≡_ {A = ℕ} 0 1 = cc in omega arith)
-    by (first ∷ []) p q = absurd (let z : _≡_ {A = ℕ} 0 1 = cc in omega arith)
+    by [] p q = impossible cc
+    by (first ∷ []) p q = impossible cc
     by (first ∷ number ∷ []) p q = right-header (same first cellsWord && isDecimal number) refl q
       where
         right-header : (t : Bool) → (same first cellsWord && isDecimal number) ≡ t → cond t (some (valueOf number)) none ≡ some g → l ++ 10 ∷ [] ≡ headerLine g
@@ -127,8 +128,8 @@ cells-back l g h e = by (split 32 l) refl e
             let text : decimal g ≡ number = ap decimal (sym value) ∙ reads-back number (both .1) (rw value h) in
             let words : join 32 (first ∷ number ∷ []) ≡ l = ap (join 32) (sym p) ∙ join-split 32 l in
             sym (line-is cellsWord (decimal g ∷ []) ∙ rw (← (same-is first cellsWord (both .0)), text, words))
-        right-header false t r = absurd (let z : _≡_ {A = ℕ} 0 1 = cc in omega arith)
-    by (first ∷ number ∷ other ∷ more) p q = absurd (let z : _≡_ {A = ℕ} 0 1 = cc in omega arith)
+        right-header false t r = impossible cc
+    by (first ∷ number ∷ other ∷ more) p q = impossible cc
 
 -- a text that says a card, by its header
 record Says (g : ℕ) (items : List Item) (ls : List (List ℕ)) : Type 0 where
@@ -141,13 +142,13 @@ record Says (g : ℕ) (items : List Item) (ls : List (List ℕ)) : Type 0 where
 
 says : (g : ℕ) (items : List Item) (ls : List (List ℕ)) → textRead ls ≡ card g items → Says g items ls
 unfolding textRead
-says g items [] e = absurd (let z : _≡_ {A = ℕ} 0 1 = cc in omega arith)
-says g items (l ∷ []) e = absurd (let z : _≡_ {A = ℕ} 0 1 = cc in omega arith)
+says g items [] e = impossible cc
+says g items (l ∷ []) e = impossible cc
 says g items (l ∷ m ∷ more) e = by (headerRead (split 32 l)) refl (linesRead 0 (suc (length l)) (m ∷ more)) refl e
   where
     by : (o : Option ℕ) → headerRead (split 32 l) ≡ o → (r : Lines) → linesRead 0 (suc (length l)) (m ∷ more) ≡ r → headed o r ≡ card g items → Says g items (l ∷ m ∷ more)
-    by none p r t q = absurd (let z : _≡_ {A = ℕ} 0 1 = cc in omega arith)
-    by (some cells) p (bad number place) t q = absurd (let z : _≡_ {A = ℕ} 0 1 = cc in omega arith)
+    by none p r t q = impossible cc
+    by (some cells) p (bad number place) t q = impossible cc
     by (some cells) p (good found) t q =
         let number : cells ≡ g = cc in
         let list : found ≡ items = cc in

@@ -21,6 +21,7 @@ use Rattle.machine.proofs.Lists.{cases, less-or-not}
 use Rattle.digits.specs.Reading.{capped}
 use Rattle.digits.proofs.Walks.{capped-large, capped-small}
 use Rattle.words.specs.Words.{split, upTo}
+use Rattle.words.proofs.Clash.{impossible}
 use Rattle.words.proofs.Cuts.{parts, whole}
 use Rattle.importer.specs.Coding.{Stores, WroteCard, codedCells, codedHeader, codedItems, codedLines, codedWriting, withLine}
 use Rattle.importer.specs.Forms.{Item, Lines, bad, card, good, headed, headerRead, linesRead, refused, textRead, withCells}
@@ -163,7 +164,7 @@ module _ (text : List ℕ) where
 
   by-cells : (cells next : ℕ) (o : Option ℕ) → headerRead (split 32 first) ≡ o → end < length text → withLine (codedCells o) (end + 1) ≡ header.Cells cells next → Header text cells next
   unfolding end first
-  by-cells cells next none e h q = absurd (let z : _≡_ {A = ℕ} 0 1 = cc in omega arith)
+  by-cells cells next none e h q = impossible cc
   by-cells cells next (some g) e h q =
       let after : end + 1 ≡ next = cc in
       record {
@@ -178,11 +179,11 @@ module _ (text : List ℕ) where
       less-or-not end (length text) (λ h. by-cells cells next (headerRead (split 32 first)) refl h (sym (read h) ∙ e))
       (λ h.
       let never : header.Wrong ≡ header.Cells cells next = sym (ap codedHeader (unended h)) ∙ e in
-      absurd (let z : _≡_ {A = ℕ} 0 1 = cc in omega arith))
+      impossible cc)
 
   by-none : (o : Option ℕ) → headerRead (split 32 first) ≡ o → end < length text → withLine (codedCells o) (end + 1) ≡ header.Wrong → said text ≡ refused 40 0
   by-none none e h q = first-said h ∙ ap (λ (o : Option ℕ). headed o (linesRead 0 (end + 1) (split 10 (drop (end + 1) text)))) e
-  by-none (some g) e h q = absurd (let z : _≡_ {A = ℕ} 0 1 = cc in omega arith)
+  by-none (some g) e h q = impossible cc
 
   no-header : codedHeader (split 10 text) ≡ header.Wrong → said text ≡ refused 40 0
   unfolding textRead
@@ -203,7 +204,7 @@ module _ (text : List ℕ) (cells next : ℕ) (h : codedHeader (split 10 text) �
   starts-inside = header-of text cells next h .inside
 
   pub wrong-line : (before : List ℕ) (number place : ℕ) (read : Lines) → read ≡ linesRead 0 next (split 10 (drop next text)) → codedLines 0 read ≡ lines.Bad number place → Imports text before (Refused number place) before
-  wrong-line before number place (good items) is e = absurd (let z : _≡_ {A = ℕ} 0 1 = cc in omega arith)
+  wrong-line before number place (good items) is e = impossible cc
   wrong-line before number place (bad n p) is e =
       let one : n ≡ number = cc in
       let two : p ≡ place = cc in
@@ -212,7 +213,7 @@ module _ (text : List ℕ) (cells next : ℕ) (h : codedHeader (split 10 text) �
 
   pub all-right : (count : ℕ) (room words before after : List ℕ) (answer : Importing) (read : Lines) → read ≡ linesRead 0 next (split 10 (drop next text)) → codedLines 0 read ≡ lines.Count count → 4096 ≤ length room →
       Stores read room words → WroteCard cells count words before answer after → Imports text before answer after
-  all-right count room words before after answer (bad n p) is e long s wrote = absurd (let z : _≡_ {A = ℕ} 0 1 = cc in omega arith)
+  all-right count room words before after answer (bad n p) is e long s wrote = impossible cc
   all-right count room words before after answer (good items) is e long s wrote =
       let d = header-of text cells next h in
       let many : count ≡ length items = (let z : 0 + length items ≡ count = cc in omega (arith, z)) in

@@ -11,6 +11,7 @@ use lib.Seq.{drop-drop, length-take-le}
 use Rattle.machine.proofs.Lists.{less-or-not}
 use Rattle.digits.specs.declared.Decimal.{Decimal}
 use Rattle.words.specs.Words.{split, upTo}
+use Rattle.words.proofs.Clash.{impossible}
 use Rattle.words.proofs.Cuts.{cut, parts, whole}
 use Rattle.importer.specs.Coding.{Stores, coded, codedCells, codedHeader, codedItems, codedLine, codedLines, nextRead, stored, withLine, withNext}
 use Rattle.importer.specs.Forms.{Item, Line, Lines, bad, before, good, headerRead, judged, lastRead, lineRead, linesRead, right, wrong}
@@ -74,7 +75,7 @@ module _ (index at : ℕ) (rest : Lines) where
   judged-bad (right address item) next number e = by (eqb address index) e
     where
       by : (t : Bool) → withNext (cond t (line.Word (coded item)) (line.Bad 42)) next ≡ following.Bad number → cond t (before item rest) (bad 42 at) ≡ bad number at
-      by true q = absurd (let z : _≡_ {A = ℕ} 0 1 = cc in omega arith)
+      by true q = impossible cc
       by false q = let same : 42 ≡ number = cc in rw (← same)
 
   record Judged (l : Line) (word : ℕ) : Type 0 where
@@ -83,20 +84,20 @@ module _ (index at : ℕ) (rest : Lines) where
     pub first : judged l index at rest ≡ before item rest
 
   judged-good : (l : Line) (next word after : ℕ) → withNext (codedLine l index) next ≡ following.Line word after → Judged l word
-  judged-good wrong next word after e = absurd (let z : _≡_ {A = ℕ} 0 1 = cc in omega arith)
+  judged-good wrong next word after e = impossible cc
   judged-good (right address item) next word after e = by (eqb address index) refl e
     where
       by : (t : Bool) → eqb address index ≡ t → withNext (cond t (line.Word (coded item)) (line.Bad 42)) next ≡ following.Line word after → Judged (right address item) word
       by true t q = record { item = item; is = cc; first = rw t }
-      by false t q = absurd (let z : _≡_ {A = ℕ} 0 1 = cc in omega arith)
+      by false t q = impossible cc
 
 next-is : (l : Line) (index next word after : ℕ) → withNext (codedLine l index) next ≡ following.Line word after → next ≡ after
-next-is wrong index next word after e = absurd (let z : _≡_ {A = ℕ} 0 1 = cc in omega arith)
+next-is wrong index next word after e = impossible cc
 next-is (right address item) index next word after e = by (eqb address index) e
   where
     by : (t : Bool) → withNext (cond t (line.Word (coded item)) (line.Bad 42)) next ≡ following.Line word after → next ≡ after
     by true q = cc
-    by false q = absurd (let z : _≡_ {A = ℕ} 0 1 = cc in omega arith)
+    by false q = impossible cc
 
 -- the lines of a text from `at` on
 pub record Step (text : List ℕ) (index at word next : ℕ) : Type 0 where
@@ -177,7 +178,7 @@ module _ (text : List ℕ) (index at : ℕ) (h : at < length text) where
       })
       (λ most.
       let never : following.Bad 41 ≡ following.Line word next = sym (ap (nextRead index at) (unended most)) ∙ e in
-      absurd (let z : _≡_ {A = ℕ} 0 1 = cc in omega arith))
+      impossible cc)
 
 -- ---- the loop
 
@@ -191,8 +192,8 @@ store-on index word item (good items) words is = rw (add-one, is)
 store-on index word item (bad number place) words is = refl
 
 none-stored : (read : Lines) (number place : ℕ) (words after : List ℕ) → codedLines 0 read ≡ lines.Bad number place → Stores read words after
-none-stored (good items) number place words after e = absurd (let z : _≡_ {A = ℕ} 0 1 = cc in omega arith)
-none-stored (bad n p) number place words after e = record { all = λ items q. absurd (let z : _≡_ {A = ℕ} 0 1 = cc in omega arith) }
+none-stored (good items) number place words after e = impossible cc
+none-stored (bad n p) number place words after e = record { all = λ items q. impossible cc }
 
 -- the lines from `at` on
 abbrev linesFrom : List ℕ → ℕ → ℕ → Lines

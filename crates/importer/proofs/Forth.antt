@@ -22,6 +22,7 @@ use Rattle.machine.proofs.Every.{and-true}
 use Rattle.machine.proofs.Lists.{cases, less-or-not}
 use Rattle.digits.proofs.Undone.{decimal-read, decimal-written}
 use Rattle.words.specs.Words.{bytes, join, lacks, split}
+use Rattle.words.proofs.Clash.{impossible}
 use Rattle.words.proofs.Cuts.{AllLack, same-self, split-join}
 use Rattle.names.specs.Names.{hasOperand, nameOf}
 use Rattle.names.proofs.Table.{right as named}
@@ -51,9 +52,9 @@ right-of : (last : ℤ) (w : ℕ) → checkOf last w ≡ verdict.Fine → Right 
 right-of last w e = by (ltb 37 (opcodeOf w)) refl (allows (ruleOf (opcodeOf w)) last (operandOf w)) refl e
   where
     by : (t : Bool) → ltb 37 (opcodeOf w) ≡ t → (u : Bool) → allows (ruleOf (opcodeOf w)) last (operandOf w) ≡ u → cond t verdict.BadOpcode (cond u verdict.Fine verdict.BadOperand) ≡ verdict.Fine → Right last w
-    by true t u p q = absurd (let z : _≡_ {A = ℕ} 0 1 = cc in omega arith)
+    by true t u p q = impossible cc
     by false t true p q = record { opcode = omega (arith, ltb-false 37 (opcodeOf w) t); rule = p }
-    by false t false p q = absurd (let z : _≡_ {A = ℕ} 0 1 = cc in omega arith)
+    by false t false p q = impossible cc
 
 -- a list whose first and other instructions are right
 record All (last : ℤ) (index w : ℕ) (ws : List ℕ) : Type 0 where
@@ -66,8 +67,8 @@ all-of last index w ws e = by (checkOf last w) refl e
   where
     by : (v : Verdict) → checkOf last w ≡ v → orElse (scanOf v index) (firstBad last (suc index) ws) ≡ Fine → All last index w ws
     by verdict.Fine v q = record { first = right-of last w v; others = q }
-    by verdict.BadOpcode v q = absurd (let z : _≡_ {A = ℕ} 0 1 = cc in omega arith)
-    by verdict.BadOperand v q = absurd (let z : _≡_ {A = ℕ} 0 1 = cc in omega arith)
+    by verdict.BadOpcode v q = impossible cc
+    by verdict.BadOperand v q = impossible cc
 
 -- ---- an operand of a word is one of 24 bits
 
@@ -113,17 +114,14 @@ none-against last (w ∷ ws) index e =
 
 -- where there is no operand, it is 0
 bare-zero : (rule : Rule) (last k : ℤ) → hasOperand rule ≡ false → allows rule last k ≡ true → pos 0 ≡ k
-bare-zero Any last k e h = absurd (let z : _≡_ {A = ℕ} 0 1 = cc in omega arith)
-bare-zero Offset last k e h = absurd (let z : _≡_ {A = ℕ} 0 1 = cc in omega arith)
-bare-zero Count last k e h = absurd (let z : _≡_ {A = ℕ} 0 1 = cc in omega arith)
-bare-zero Target last k e h = absurd (let z : _≡_ {A = ℕ} 0 1 = cc in omega arith)
+bare-zero Any last k e h = impossible cc
+bare-zero Offset last k e h = impossible cc
+bare-zero Count last k e h = impossible cc
+bare-zero Target last k e h = impossible cc
 bare-zero Zero last (pos n) e h = ap pos (omega (arith, leb-true n 0 (and-true (leb 0 n) (leb n 0) h .1)))
-bare-zero Zero last (negsuc n) e h = absurd (let z : _≡_ {A = ℕ} 0 1 = cc in omega arith)
+bare-zero Zero last (negsuc n) e h = impossible cc
 
 module _ (last : ℤ) (w : ℕ) (r : Right last w) where
-  name : List ℕ
-  name = nameOf (opcodeOf w)
-
   item-read : itemRead (nameOf (opcodeOf w) ∷ operandWords w) ≡ some (itemOf w)
   unfolding itemRead
   item-read =

@@ -18,6 +18,7 @@ use Rattle.card.specs.declared.scan.Scan.the-variants.{Fine, Bad}
 use Rattle.machine.proofs.Every.{and-true}
 use Rattle.digits.specs.Reading.{valueOf}
 use Rattle.words.specs.Words.{split}
+use Rattle.words.proofs.Clash.{impossible}
 use Rattle.names.specs.Names.{hasOperand, opcodeNamed}
 use Rattle.names.specs.declared.Named.{Named}
 use Rattle.names.specs.declared.Named.the-variants.{Opcode, Unknown}
@@ -33,28 +34,28 @@ AllNamed [] = Unit
 AllNamed (item ∷ items) = (item .opcode < 38) × AllNamed items
 
 bare-named : (name : List ℕ) (n : Named) (item : Item) → opcodeNamed name ≡ n → bareItem n ≡ some item → item .opcode < 38
-bare-named name Unknown item e q = absurd (let z : _≡_ {A = ℕ} 0 1 = cc in omega arith)
+bare-named name Unknown item e q = impossible cc
 bare-named name (Opcode opcode) item e q = by (hasOperand (ruleOf opcode)) q
   where
     by : (t : Bool) → cond t none (some (record { opcode = opcode; operand = pos 0 })) ≡ some item → item .opcode < 38
-    by true r = absurd (let z : _≡_ {A = ℕ} 0 1 = cc in omega arith)
+    by true r = impossible cc
     by false r = let same : opcode ≡ item .opcode = cc in omega (arith, same, named-is name opcode e .0)
 
 full-named : (name : List ℕ) (n : Named) (o : Option ℤ) (item : Item) → opcodeNamed name ≡ n → fullItem n o ≡ some item → item .opcode < 38
-full-named name Unknown o item e q = absurd (let z : _≡_ {A = ℕ} 0 1 = cc in omega arith)
-full-named name (Opcode opcode) none item e q = absurd (let z : _≡_ {A = ℕ} 0 1 = cc in omega arith)
+full-named name Unknown o item e q = impossible cc
+full-named name (Opcode opcode) none item e q = impossible cc
 full-named name (Opcode opcode) (some k) item e q = by (hasOperand (ruleOf opcode)) q
   where
     by : (t : Bool) → cond t (some (record { opcode = opcode; operand = k })) none ≡ some item → item .opcode < 38
     by true r = let same : opcode ≡ item .opcode = cc in omega (arith, same, named-is name opcode e .0)
-    by false r = absurd (let z : _≡_ {A = ℕ} 0 1 = cc in omega arith)
+    by false r = impossible cc
 
 item-named : (words : List (List ℕ)) (item : Item) → itemRead words ≡ some item → item .opcode < 38
 unfolding itemRead
-item-named [] item e = absurd (let z : _≡_ {A = ℕ} 0 1 = cc in omega arith)
+item-named [] item e = impossible cc
 item-named (name ∷ []) item e = bare-named name (opcodeNamed name) item refl e
 item-named (name ∷ k ∷ []) item e = full-named name (opcodeNamed name) (operandRead k) item refl e
-item-named (name ∷ k ∷ l ∷ more) item e = absurd (let z : _≡_ {A = ℕ} 0 1 = cc in omega arith)
+item-named (name ∷ k ∷ l ∷ more) item e = impossible cc
 
 -- an item that a line spells, by its words
 pub record Spells (words : List (List ℕ)) (address : ℕ) (item : Item) : Type 0 where
@@ -67,15 +68,15 @@ pub record Spells (words : List (List ℕ)) (address : ℕ) (item : Item) : Type
 
 pub spells : (words : List (List ℕ)) (address : ℕ) (item : Item) → lineRead words ≡ right address item → Spells words address item
 unfolding lineRead
-spells [] address item e = absurd (let z : _≡_ {A = ℕ} 0 1 = cc in omega arith)
+spells [] address item e = impossible cc
 spells (first ∷ others) address item e = by (isAddress first) refl (itemRead others) refl e
   where
     by : (t : Bool) → isAddress first ≡ t → (o : Option Item) → itemRead others ≡ o → cond t (addressed (valueOf first) o) wrong ≡ right address item → Spells (first ∷ others) address item
-    by true t none o q = absurd (let z : _≡_ {A = ℕ} 0 1 = cc in omega arith)
+    by true t none o q = impossible cc
     by true t (some found) o q =
         let same : found ≡ item = cc in
         record { first = first; others = others; are = refl; four = t; number = cc; spelled = o ∙ ap some same }
-    by false t o p q = absurd (let z : _≡_ {A = ℕ} 0 1 = cc in omega arith)
+    by false t o p q = impossible cc
 
 -- lines that are all right, by the first of them
 pub record First (index place : ℕ) (l : Line) (rest : Lines) (items : List Item) : Type 0 where
@@ -86,17 +87,17 @@ pub record First (index place : ℕ) (l : Line) (rest : Lines) (items : List Ite
   pub follow : rest ≡ good others
 
 pub first-of : (index place : ℕ) (l : Line) (rest : Lines) (items : List Item) → judged l index place rest ≡ good items → First index place l rest items
-first-of index place wrong rest items e = absurd (let z : _≡_ {A = ℕ} 0 1 = cc in omega arith)
+first-of index place wrong rest items e = impossible cc
 first-of index place (right address item) rest items e = by (eqb address index) refl rest refl e
   where
     by : (t : Bool) → eqb address index ≡ t → (r : Lines) → rest ≡ r → cond t (before item r) (bad 42 place) ≡ good items → First index place (right address item) rest items
     by true t (good others) r q = record { item = item; others = others; are = cc; line = ap (λ (a : ℕ). right a item) (eqb-true address index t); follow = r }
-    by true t (bad number at) r q = absurd (let z : _≡_ {A = ℕ} 0 1 = cc in omega arith)
-    by false t r p q = absurd (let z : _≡_ {A = ℕ} 0 1 = cc in omega arith)
+    by true t (bad number at) r q = impossible cc
+    by false t r p q = impossible cc
 
 last-named : (last : List ℕ) (place : ℕ) (items : List Item) → lastRead last place ≡ good items → AllNamed items
 last-named [] place items e = let same : [] ≡ items = cc in rw (← same) tt
-last-named (b ∷ rest) place items e = absurd (let z : _≡_ {A = ℕ} 0 1 = cc in omega arith)
+last-named (b ∷ rest) place items e = impossible cc
 
 pub lines-named : (ls : List (List ℕ)) (index place : ℕ) (items : List Item) → linesRead index place ls ≡ good items → AllNamed items
 unfolding linesRead
@@ -166,8 +167,8 @@ allowed-coded last (item ∷ items) index e = by (inBits (item .operand)) refl (
     by : (t : Bool) → inBits (item .operand) ≡ t → (u : Bool) → cond (t && u) (firstAgainst last (suc index) items) (some index) ≡ none →
         (firstAgainst last (suc index) items ≡ none → codedItems items ≡ wordsOf items) → coded item ∷ codedItems items ≡ wordOf item ∷ wordsOf items
     by true t true q later = rw (t, later q)
-    by true t false q later = absurd (let z : _≡_ {A = ℕ} 0 1 = cc in omega arith)
-    by false t u q later = absurd (let z : _≡_ {A = ℕ} 0 1 = cc in omega arith)
+    by true t false q later = impossible cc
+    by false t u q later = impossible cc
 
 pub length-coded : (items : List Item) → length (codedItems items) ≡ length items
 unfolding codedItems

@@ -17,13 +17,14 @@ use Rattle.digits.specs.declared.Decimal.the-variants as decimal
 use Rattle.digits.proofs.Undone.{all-of, digit, value-less}
 use Rattle.digits.proofs.Walks.{capped-large, capped-small}
 use Rattle.words.specs.Words.{lacks}
+use Rattle.words.proofs.Clash.{impossible}
 use Rattle.importer.specs.Coding.{addressRead, codedOperand, minusNumber, plainNumber}
 use Rattle.importer.specs.Forms.{minusRead, operandRead, plainRead}
 use Rattle.importer.specs.declared.lines.Address.the-variants as address
 use Rattle.importer.specs.declared.operands.Operand.the-variants as operand
 
 never : {X : Type 0} {n : ℕ} → decimal.Wrong ≡ decimal.Value n → X
-never e = absurd (let z : _≡_ {A = ℕ} 0 1 = cc in omega arith)
+never e = impossible cc
 
 -- ---- a number as an operand
 
@@ -117,17 +118,17 @@ first-other (b ∷ rest) h e = rw (ne-eqb b 45 e)
 
 -- the bits of an operand are 24
 pub bits-small : (o : Option ℤ) (bits : ℕ) → codedOperand o ≡ operand.Bits bits → bits < 16777216
-bits-small none bits e = absurd (let z : _≡_ {A = ℕ} 0 1 = cc in omega arith)
+bits-small none bits e = impossible cc
 bits-small (some (pos k)) bits e = by (leb k 8388607) refl e
   where
     by : (t : Bool) → leb k 8388607 ≡ t → cond t (operand.Bits k) operand.Beyond ≡ operand.Bits bits → bits < 16777216
     by true t q = let same : k ≡ bits = cc in omega (arith, same, leb-true k 8388607 t)
-    by false t q = absurd (let z : _≡_ {A = ℕ} 0 1 = cc in omega arith)
+    by false t q = impossible cc
 bits-small (some (negsuc k)) bits e = by (leb k 8388607 && true) e
   where
     by : (t : Bool) → cond t (operand.Bits (16777215 - k)) operand.Beyond ≡ operand.Bits bits → bits < 16777216
     by true q = let same : 16777215 - k ≡ bits = cc in omega (arith, same)
-    by false q = absurd (let z : _≡_ {A = ℕ} 0 1 = cc in omega arith)
+    by false q = impossible cc
 
 -- ---- digits have no separator
 
@@ -148,11 +149,11 @@ operand-lacks sep (b ∷ rest) k h e = by (eqb b 45) refl e
   where
     after-minus : (t : Bool) → isDecimal rest ≡ t → cond (t && not (eqb (valueOf rest) 0)) (some (negsuc (valueOf rest - 1))) none ≡ some k → lacks sep rest ≡ true
     after-minus true t q = decimal-lacks sep rest (omega (arith, h)) t
-    after-minus false t q = absurd (let z : _≡_ {A = ℕ} 0 1 = cc in omega arith)
+    after-minus false t q = impossible cc
 
     plain : (t : Bool) → isDecimal (b ∷ rest) ≡ t → cond t (some (pos (valueOf (b ∷ rest)))) none ≡ some k → lacks sep (b ∷ rest) ≡ true
     plain true t q = decimal-lacks sep (b ∷ rest) (omega (arith, h)) t
-    plain false t q = absurd (let z : _≡_ {A = ℕ} 0 1 = cc in omega arith)
+    plain false t q = impossible cc
 
     by : (t : Bool) → eqb b 45 ≡ t → cond t (minusRead rest) (plainRead (b ∷ rest)) ≡ some k → lacks sep (b ∷ rest) ≡ true
     by true t q = rw (ne-eqb b sep (λ same. omega (arith, same, h, eqb-true b 45 t))) (after-minus (isDecimal rest) refl q)

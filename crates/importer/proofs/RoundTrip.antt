@@ -30,6 +30,7 @@ use Rattle.importer.specs.declared.importing.Importing.the-variants.{Imp
 use Rattle.importer.proofs.Back.{allowed, said-named, text-back}
 use Rattle.importer.proofs.Forth.{itemsOf, length-items, none-against, text-says, words-again}
 use Rattle.importer.proofs.Judged.{AllNamed, allowed-coded, first-coded, length-coded, scanned, word}
+use Rattle.words.proofs.Clash.{impossible}
 
 -- ---- what an accepted answer says of a text, and when it comes
 
@@ -44,7 +45,7 @@ record Accepts (said : Text) (room size : ℕ) : Type 0 where
   pub exact : size ≡ imageSize (length items)
 
 never : {X : Type 0} {number place size : ℕ} → Refused number place ≡ Imported size → X
-never e = absurd (let z : _≡_ {A = ℕ} 0 1 = cc in omega arith)
+never e = impossible cc
 
 accepted : (said : Text) (room size : ℕ) → answerOf said room ≡ Imported size → Accepts said room size
 unfolding answerOf

@@ -17,6 +17,7 @@ use Rattle.machine.proofs.Lists.{cases, clash, less-or-not}
 use Rattle.digits.specs.Reading.{capped, decimalOf, isDecimal, valueOf}
 use Rattle.digits.specs.declared.Decimal.the-variants as decimal
 use Rattle.words.specs.Words.{lacks, same, split, upTo}
+use Rattle.words.proofs.Clash.{impossible}
 use Rattle.words.proofs.Cuts.{cut, part-alone, two, whole}
 use Rattle.names.specs.Names.{hasOperand, opcodeNamed}
 use Rattle.names.specs.declared.Named.{Named}
@@ -58,19 +59,19 @@ takes-none opcode (some k) e = rw e
 
 module _ (opcode : ℕ) (has : hasOperand (ruleOf opcode) ≡ true) where
   pub full-bits : (o : Option ℤ) (bits : ℕ) → codedOperand o ≡ operand.Bits bits → entry.Word (opcode * 16777216 + bits) ≡ codedEntry (fullItem (Opcode opcode) o)
-  full-bits none bits e = absurd (let z : _≡_ {A = ℕ} 0 1 = cc in omega arith)
+  full-bits none bits e = impossible cc
   full-bits (some k) bits e = rw has (by (inBits k) e)
     where
       by : (t : Bool) → cond t (operand.Bits (bitsOf k)) operand.Beyond ≡ operand.Bits bits → entry.Word (opcode * 16777216 + bits) ≡ entry.Word (cond t (opcode * 16777216 + bitsOf k) 1)
       by true q = let same : bitsOf k ≡ bits = cc in ap (λ (b : ℕ). entry.Word (opcode * 16777216 + b)) (sym same)
-      by false q = absurd (let z : _≡_ {A = ℕ} 0 1 = cc in omega arith)
+      by false q = impossible cc
 
   pub full-beyond : (o : Option ℤ) → codedOperand o ≡ operand.Beyond → entry.Word 1 ≡ codedEntry (fullItem (Opcode opcode) o)
-  full-beyond none e = absurd (let z : _≡_ {A = ℕ} 0 1 = cc in omega arith)
+  full-beyond none e = impossible cc
   full-beyond (some k) e = rw has (by (inBits k) e)
     where
       by : (t : Bool) → cond t (operand.Bits (bitsOf k)) operand.Beyond ≡ operand.Beyond → entry.Word 1 ≡ entry.Word (cond t (opcode * 16777216 + bitsOf k) 1)
-      by true q = absurd (let z : _≡_ {A = ℕ} 0 1 = cc in omega arith)
+      by true q = impossible cc
       by false q = refl
 
   pub full-wrong : (o : Option ℤ) → codedOperand o ≡ operand.Wrong → entry.Wrong ≡ codedEntry (fullItem (Opcode opcode) o)
@@ -78,8 +79,8 @@ module _ (opcode : ℕ) (has : hasOperand (ruleOf opcode) ≡ true) where
   full-wrong (some k) e = by (inBits k) e
     where
       by : (t : Bool) → cond t (operand.Bits (bitsOf k)) operand.Beyond ≡ operand.Wrong → entry.Wrong ≡ codedEntry (fullItem (Opcode opcode) (some k))
-      by true q = absurd (let z : _≡_ {A = ℕ} 0 1 = cc in omega arith)
-      by false q = absurd (let z : _≡_ {A = ℕ} 0 1 = cc in omega arith)
+      by true q = impossible cc
+      by false q = impossible cc
 
 -- ---- the words behind an address
 
@@ -135,11 +136,11 @@ module _ (word : List ℕ) (rest : List (List ℕ)) where
       by : (t : Bool) → cond t wrong wrong ≡ wrong
       by true = refl
       by false = refl
-  no-item (some item) e q = absurd (let z : _≡_ {A = ℕ} 0 1 = cc in omega arith)
+  no-item (some item) e q = impossible cc
 
   pub line-is : (o : Option Item) (w index : ℕ) → itemRead rest ≡ o → codedEntry o ≡ entry.Word w → placedLine (addressRead word) w index ≡ codedLine (lineRead (word ∷ rest)) index
   unfolding lineRead
-  line-is none w index e q = absurd (let z : _≡_ {A = ℕ} 0 1 = cc in omega arith)
+  line-is none w index e q = impossible cc
   line-is (some item) w index e q =
       let same : coded item ≡ w = cc in
       rw (e, ← same) (by (isAddress word))

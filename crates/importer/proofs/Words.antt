@@ -17,6 +17,7 @@ use Rattle.machine.proofs.Every.{and-true}
 use Rattle.digits.specs.Reading.{allDigits, isDecimal, isDigit, valueOf}
 use Rattle.digits.proofs.Undone.{all-of, decimal-read, decimal-written, digit, digits-after, digits-all, digits-read, reads-back}
 use Rattle.words.specs.Words.{join, lacks, split}
+use Rattle.words.proofs.Clash.{impossible}
 use Rattle.words.proofs.Cuts.{AllLack, lacks-join, part-first}
 use Rattle.lister.specs.Text.{addressOf}
 use Rattle.importer.specs.Forms.{isAddress, minusRead, operandRead, plainRead}
@@ -32,7 +33,7 @@ record Begins (word : List ℕ) : Type 0 where
 
 begins : (word : List ℕ) → isDecimal word ≡ true → Begins word
 unfolding allDigits isDecimal
-begins [] e = absurd (let z : _≡_ {A = ℕ} 0 1 = cc in omega arith)
+begins [] e = impossible cc
 begins (b ∷ rest) e =
     let first = and-true (isDigit b) (allDigits rest) (all-of (b ∷ rest) e) .0 in
     record { some-byte = omega arith; no-minus = λ minus. omega (arith, minus, digit b first .least) }
@@ -58,7 +59,7 @@ operand-read (negsuc n) h = rw (decimal-written (suc n) h, decimal-read (suc n) 
 -- what was read is written
 pub operand-back : (word : List ℕ) (k : ℤ) → operandRead word ≡ some k → Told k → signed k ≡ word
 unfolding operandRead
-operand-back [] k e h = absurd (let z : _≡_ {A = ℕ} 0 1 = cc in omega arith)
+operand-back [] k e h = impossible cc
 operand-back (b ∷ rest) k e h = by (eqb b 45) refl e
   where
     plain : (t : Bool) → isDecimal (b ∷ rest) ≡ t → cond t (some (pos (valueOf (b ∷ rest)))) none ≡ some k → signed k ≡ b ∷ rest
@@ -66,7 +67,7 @@ operand-back (b ∷ rest) k e h = by (eqb b 45) refl e
         let same : pos (valueOf (b ∷ rest)) ≡ k = cc in
         let small : valueOf (b ∷ rest) < 10 ^ 20 = rw (← same) at h in
         ap signed (sym same) ∙ reads-back (b ∷ rest) t small
-    plain false t q = absurd (let z : _≡_ {A = ℕ} 0 1 = cc in omega arith)
+    plain false t q = impossible cc
 
     minus : (t : Bool) → (isDecimal rest && not (eqb (valueOf rest) 0)) ≡ t → b ≡ 45 → cond t (some (negsuc (valueOf rest - 1))) none ≡ some k → signed k ≡ b ∷ rest
     minus true t first q =
@@ -76,7 +77,7 @@ operand-back (b ∷ rest) k e h = by (eqb b 45) refl e
         let size : suc (valueOf rest - 1) ≡ valueOf rest = omega (arith, least) in
         let small : suc (valueOf rest - 1) < 10 ^ 20 = rw (← same) at h in
         ap signed (sym same) ∙ rw first (ap (λ (l : List ℕ). 45 ∷ l) (ap decimal size ∙ reads-back rest (both .0) (rw size at small)))
-    minus false t first q = absurd (let z : _≡_ {A = ℕ} 0 1 = cc in omega arith)
+    minus false t first q = impossible cc
 
     by : (t : Bool) → eqb b 45 ≡ t → cond t (minusRead rest) (plainRead (b ∷ rest)) ≡ some k → signed k ≡ b ∷ rest
     by true t q = minus (isDecimal rest && not (eqb (valueOf rest) 0)) refl (eqb-true b 45 t) q

@@ -3,15 +3,17 @@ use Prim.Native.Nat.{ℕ, suc, _+_, _*_, _-_}
 use mathlib.Core.Bool.{Bool, cond, _&&_, _||_}
 use mathlib.Core.List.{List, [], _∷_, _++_}
 use mathlib.Core.Option.{Option, none, some}
-use mathlib.Core.Path.{_≡_}
+use mathlib.Core.Path.{_≡_, refl}
 use lib.Dec.{ltb}
 use lib.IntN.{ℤ, pos, negsuc}
 use lib.ListN.{drop, length}
 use Rattle.instruction.specs.Rules.{allows, isBetween, ruleOf}
 use Rattle.card.specs.Image.{imageSize, lastOf, outOfRange}
-use Rattle.card.specs.Writing.{imageOf}
-use Rattle.words.specs.Words.{split}
-use Rattle.importer.specs.Forms.{Item, Text, card, refused, textRead}
+use Rattle.card.specs.Writing.{imageOf, wordsBytes}
+use Rattle.digits.specs.Reading.{allDigits, isDecimal, valueFrom}
+use Rattle.words.specs.Words.{bytes, same, split}
+use Rattle.names.specs.Names.{namedFrom, names}
+use Rattle.importer.specs.Forms.{Item, Text, card, headerRead, itemRead, lineRead, linesRead, operandRead, refused, textRead}
 use Rattle.importer.specs.declared.importing.Importing.{Importing}
 use Rattle.importer.specs.declared.importing.Importing.the-variants.{Imported, Refused}
 
@@ -75,3 +77,15 @@ pub record Leaves (said : Text) (before : List ℕ) (answer : Importing) (after 
 -- the promise of the call, for every text and buffer
 abbrev pub Imports : List ℕ → List ℕ → Importing → List ℕ → Type 0
 Imports text = Leaves (said text)
+
+-- "P2 lists as `cells 1`, `0000 loadc 7`, `0001 exit`", and back: the image has 17 bytes, for which 16 are no room
+p2-said : Text
+p2-said = said (bytes "cells 1\n0000 loadc 7\n0001 exit\n")
+
+p2-image : imageSaid p2-said ≡ 0 ∷ 0 ∷ 0 ∷ 13 ∷ 1 ∷ 0 ∷ 1 ∷ 0 ∷ 2 ∷ 1 ∷ 0 ∷ 0 ∷ 7 ∷ 28 ∷ 0 ∷ 0 ∷ 0 ∷ []
+unfolding allDigits bytes headerRead imageSaid isDecimal itemRead lineRead linesRead namedFrom names operandRead p2-said same split textRead valueFrom wordsBytes wordsOf
+p2-image = refl
+
+p2-imported : (answerOf p2-said 17 ≡ Imported 17) × (answerOf p2-said 16 ≡ Refused 43 0)
+unfolding allDigits answerOf bytes firstAgainst headerRead isDecimal itemRead lineRead linesRead namedFrom names operandRead p2-said same split textRead valueFrom
+p2-imported = (refl, refl)

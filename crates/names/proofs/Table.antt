@@ -11,10 +11,11 @@ use lib.ListN.{List·getD-eq-default, drop, drop-of-length-le, getD, length, tak
 use lib.Seq.{drop-cons}
 use Rattle.text.specs.Lines.{Puts}
 use Rattle.words.specs.Words.{bytes, lacks, same, split, upTo}
+use Rattle.words.proofs.Clash.{impossible}
 use Rattle.words.proofs.Cuts.{part, same-is}
 use Rattle.machine.specs.Lists.{every}
 use Rattle.machine.proofs.Every.{and-true, every-true}
-use Rattle.names.specs.Names.{nameOf, namedFrom, names, opcodeNamed, padded, table}
+use Rattle.names.specs.Names.{all-named, nameOf, namedFrom, names, opcodeNamed, padded, table}
 use Rattle.names.specs.declared.Named.{Named}
 use Rattle.names.specs.declared.Named.the-variants.{Opcode, Unknown}
 
@@ -47,13 +48,9 @@ pub table-length : length table ≡ 380
 unfolding bytes names padded split table
 table-length = refl
 
-names-length : length names ≡ 38
-unfolding bytes names split
-names-length = refl
-
 opcode-is : (k : ℕ) (n : Named) → isOpcode k n ≡ true → n ≡ Opcode k
 opcode-is k (Opcode j) e = ap Opcode (eqb-true j k e)
-opcode-is k Unknown e = absurd (let z : _≡_ {A = ℕ} 0 1 = cc in omega arith)
+opcode-is k Unknown e = impossible cc
 
 pub record Right (k : ℕ) : Type 0 where
   pub entry : upTo 32 (drop (10 * k) table) ≡ nameOf k
@@ -84,7 +81,7 @@ part-is l k start r is h at e =
 -- a name that is read is the name of the opcode it was read as
 pub named-from : (k : ℕ) (ns : List (List ℕ)) (word : List ℕ) (opcode : ℕ) → namedFrom k ns word ≡ Opcode opcode → (k ≤ opcode) × (opcode < k + length ns) × (getD ns (opcode - k) [] ≡ word)
 unfolding namedFrom
-named-from k [] word opcode e = absurd (let z : _≡_ {A = ℕ} 0 1 = cc in omega arith)
+named-from k [] word opcode e = impossible cc
 named-from k (name ∷ rest) word opcode e = by (same name word) refl e (named-from (suc k) rest word opcode)
   where
     by : (t : Bool) → same name word ≡ t → cond t (Opcode k) (namedFrom (suc k) rest word) ≡ Opcode opcode →
@@ -103,13 +100,13 @@ pub named-is : (word : List ℕ) (opcode : ℕ) → opcodeNamed word ≡ Opcode 
 named-is word opcode e =
     let r = named-from 0 names word opcode e in
     let all : opcode - 0 ≡ opcode = omega arith in
-    (omega (arith, r .1, names-length), rw all at (r .2))
+    (omega (arith, r .1, all-named), rw all at (r .2))
 
 -- the namedFrom from k on, by the name there
 module _ (word : List ℕ) (k : ℕ) (h : k < 38) where
   at-name : namedFrom k (drop k names) word ≡ cond (same (nameOf k) word) (Opcode k) (namedFrom (k + 1) (drop (k + 1) names) word)
   unfolding namedFrom
-  at-name = rw (add-one, drop-cons names k [] (omega (arith, h, names-length)))
+  at-name = rw (add-one, drop-cons names k [] (omega (arith, h, all-named)))
 
   pub hit : same (nameOf k) word ≡ true → namedFrom k (drop k names) word ≡ Opcode k
   hit e = at-name ∙ rw e
@@ -119,10 +116,10 @@ module _ (word : List ℕ) (k : ℕ) (h : k < 38) where
 
 pub none-left : (word : List ℕ) (k : ℕ) → 38 ≤ k → namedFrom k (drop k names) word ≡ Unknown
 unfolding namedFrom
-none-left word k h = let past : length names ≤ k = omega (arith, h, names-length) in rw (drop-of-length-le names past)
+none-left word k h = let past : length names ≤ k = omega (arith, h, all-named) in rw (drop-of-length-le names past)
 
 -- past the last opcode the name is empty, and nothing is written
 pub no-name : (k at : ℕ) (buffer : List ℕ) → 38 ≤ k → Puts (nameOf k) buffer at buffer at
 no-name k at buffer h =
-    let past : length names ≤ k = omega (arith, h, names-length) in
+    let past : length names ≤ k = omega (arith, h, all-named) in
     rw (List·getD-eq-default names [] past) (record { written = refl; reached = omega arith })

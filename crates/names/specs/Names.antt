@@ -49,7 +49,7 @@ unfoldable pub table : List ℕ
 table = padded names
 
 -- a name for each of the 38 opcodes, and the last is broadcast's
-all-named : length names ≡ 38
+pub all-named : length names ≡ 38
 unfolding bytes names split
 all-named = refl
 

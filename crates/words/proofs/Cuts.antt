@@ -8,6 +8,7 @@ use borrow.Author.Tests.{eqb-true, eq-eqb, not-true}
 use lib.Dec.{eqb}
 use lib.ListN.{length, take, drop}
 use Rattle.words.specs.Words.{join, lacks, onto, same, split, upTo}
+use Rattle.words.proofs.Clash.{impossible}
 use Rattle.machine.proofs.Every.{and-true, true-and}
 
 -- ---- the same word
@@ -15,8 +16,8 @@ use Rattle.machine.proofs.Every.{and-true, true-and}
 pub same-is : (a b : List ℕ) → same a b ≡ true → a ≡ b
 unfolding same
 same-is [] [] e = refl
-same-is [] (c ∷ cs) e = absurd (let z : _≡_ {A = ℕ} 0 1 = cc in omega arith)
-same-is (b ∷ bs) [] e = absurd (let z : _≡_ {A = ℕ} 0 1 = cc in omega arith)
+same-is [] (c ∷ cs) e = impossible cc
+same-is (b ∷ bs) [] e = impossible cc
 same-is (b ∷ bs) (c ∷ cs) e = let both = and-true (eqb b c) (same bs cs) e in rw (eqb-true b c (both .0), same-is bs cs (both .1))
 
 pub same-self : (a : List ℕ) → same a a ≡ true
@@ -104,7 +105,7 @@ pub record Two (parts : List (List ℕ)) : Type 0 where
 
 pub two : (sep : ℕ) (l : List ℕ) → lacks sep l ≡ false → Two (split sep l)
 unfolding lacks split
-two sep [] e = absurd (let z : _≡_ {A = ℕ} 0 1 = cc in omega arith)
+two sep [] e = impossible cc
 two sep (b ∷ rest) e = by (eqb b sep) e (two sep rest)
   where
     by : (t : Bool) → (not t && lacks sep rest) ≡ false → (lacks sep rest ≡ false → Two (split sep rest)) → Two (cond t ([] ∷ split sep rest) (onto b (split sep rest)))
