@@ -69,6 +69,21 @@ abbrev pub imported : Importing → Text → List ℕ → List ℕ
 imported (Imported size) said buffer = imageSaid said ++ drop size buffer
 imported (Refused number place) said buffer = buffer
 
+-- an answer's number, 0 where nothing is refused
+abbrev pub numberOf : Importing → ℕ
+numberOf (Imported size) = 0
+numberOf (Refused number place) = number
+
+-- its place, 0 where nothing is refused
+abbrev pub placeOf : Importing → ℕ
+placeOf (Imported size) = 0
+placeOf (Refused number place) = place
+
+-- and the image's size, 0 after a refusal
+abbrev pub sizeOf : Importing → ℕ
+sizeOf (Imported size) = size
+sizeOf (Refused number place) = 0
+
 -- an answer, and the buffer that it leaves
 pub record Leaves (said : Text) (before : List ℕ) (answer : Importing) (after : List ℕ) : Type 0 where
   pub answered : answer ≡ answerOf said (length before)

@@ -12,6 +12,9 @@ use crate::lines::Lines;
 use crate::lines::read_lines;
 use card::Writing;
 
+// The most instructions that a card has.
+const MOST: usize = 4096;
+
 // The answer.
 pub enum Importing {
     // The image's size in bytes.
@@ -43,7 +46,7 @@ fn write_card(cells: usize, count: usize, words: &[u32], out: &mut [u8]) -> Impo
     requires { ⌜ 4096 ≤ length (now words) ⌝ }
     ensures { λ r. ⌜ WroteCard cells count (now (words .entry)) (now (out .entry)) r (now (out .exit)) ⌝ }
 {
-    if 4096 < count {
+    if MOST < count {
         return Importing::Refused {
             number: 3,
             place: 5,
@@ -58,7 +61,7 @@ fn import_lines(text: &[u8], cells: usize, next: usize, out: &mut [u8]) -> Impor
     requires { ⌜ codedHeader (split 10 (now text)) ≡ header.Cells cells next ⌝ }
     ensures { λ r. ⌜ Imports (now (text .entry)) (now (out .entry)) r (now (out .exit)) ⌝ }
 {
-    let mut words = [0u32; 4096];
+    let mut words = [0u32; MOST];
     match read_lines(text, next, &mut words) {
         Lines::Count(count) => write_card(cells, count, &words, out),
         Lines::Bad { number, place } => Importing::Refused { number, place },

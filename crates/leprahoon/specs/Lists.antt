@@ -11,13 +11,13 @@ use Rattle.card.specs.declared.writer.Writing.{Writing}
 use Rattle.card.specs.declared.writer.Writing.the-variants as writing
 use Rattle.importer.specs.Importing.{answerOf, imported, said}
 use Rattle.importer.specs.declared.importing.Importing.{Importing}
-use Rattle.importer.specs.declared.importing.Importing.the-variants as importing
+use Rattle.importer.specs.Importing as importing
 use Rattle.line.specs.Line.{lineAnswer, lineLeft}
 use Rattle.line.specs.declared.answers.Line.{Line}
 use Rattle.line.specs.declared.answers.Line.the-variants as line
 use Rattle.lister.specs.Listing.{listOf as lineAsked, listed}
 use Rattle.lister.specs.declared.listing.Listing.{Listing}
-use Rattle.lister.specs.declared.listing.Listing.the-variants as listing
+use Rattle.lister.specs.Listing as listing
 use Rattle.machine.specs.Calls.{Called, countOf}
 use Rattle.machine.specs.declared.answers.Answer.{Answer}
 use Rattle.machine.specs.declared.answers.Answer.the-variants.{Halted, Running, Stuck, Faulted, Refused}
@@ -80,9 +80,7 @@ pub record WroteList (cells : ℕ) (list before after report : List ℕ) : Type 
 
 -- the answer of listing a line: the refusal's number, or 0, its place, and the line's length, 0 past the last line
 abbrev pub listingList : Listing → List ℕ
-listingList (listing.Written length) = 0 ∷ 0 ∷ length ∷ []
-listingList listing.Past = 0 ∷ 0 ∷ 0 ∷ []
-listingList (listing.Refused number place) = number ∷ place ∷ 0 ∷ []
+listingList l = listing.numberOf l ∷ listing.placeOf l ∷ listing.lengthOf l ∷ []
 
 pub record ListedList (image : List ℕ) (line : ℕ) (before after report : List ℕ) : Type 0 where
   pub reported : report ≡ listingList (lineAsked image line (length before))
@@ -90,8 +88,7 @@ pub record ListedList (image : List ℕ) (line : ℕ) (before after report : Lis
 
 -- the answer of importing: the refusal's number, or 0, its place, and the image's size
 abbrev pub importList : Importing → List ℕ
-importList (importing.Imported size) = 0 ∷ 0 ∷ size ∷ []
-importList (importing.Refused number place) = number ∷ place ∷ 0 ∷ []
+importList i = importing.numberOf i ∷ importing.placeOf i ∷ importing.sizeOf i ∷ []
 
 pub record ImportedList (text before after report : List ℕ) : Type 0 where
   pub reported : report ≡ importList (answerOf (said text) (length before))

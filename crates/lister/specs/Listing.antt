@@ -44,6 +44,24 @@ listed (Written size) image line buffer = imageLine image line ++ drop size buff
 listed Past image line buffer = buffer
 listed (Refused number place) image line buffer = buffer
 
+-- an answer's number, 0 where nothing is refused
+abbrev pub numberOf : Listing → ℕ
+numberOf (Written size) = 0
+numberOf Past = 0
+numberOf (Refused number place) = number
+
+-- its place, 0 where nothing is refused
+abbrev pub placeOf : Listing → ℕ
+placeOf (Written size) = 0
+placeOf Past = 0
+placeOf (Refused number place) = place
+
+-- and the line's length, 0 where none was written
+abbrev pub lengthOf : Listing → ℕ
+lengthOf (Written size) = size
+lengthOf Past = 0
+lengthOf (Refused number place) = 0
+
 -- an answer, and the buffer that it leaves
 pub record Leaves (expected : Listing) (image : List ℕ) (line : ℕ) (before : List ℕ) (answer : Listing) (after : List ℕ) : Type 0 where
   pub answered : answer ≡ expected

@@ -3,5 +3,6 @@ mod lines;
 mod listing;
 mod writer;
 
+pub use lines::ROOM;
 pub use listing::Listing;
 pub use listing::list_line;

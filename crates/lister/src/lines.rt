@@ -7,6 +7,9 @@ ghost use Rattle.text.specs.Lines.{Puts};
 ghost use Rattle.lister.specs.Filling.{filled, lineText, operandText, reached};
 ghost use Rattle.lister.specs.Text.{addressOf, headerLine, instructionLine};
 
+// More bytes than any line has.
+pub const ROOM: usize = 48;
+
 // The last digit of a number.
 fn digit(n: usize) -> u8
     ensures { λ r. ⌜ r ≡ glyph (n % 10) ⌝ }
@@ -90,7 +93,7 @@ pub fn line_at(out: &mut [u8], at: usize, line: usize, content: u32) -> usize
     ensures { λ r. ⌜ r ≡ reached (now (out .entry)) at (lineText line content) ⌝ }
     ensures { λ r. ⌜ now (out .exit) ≡ filled (now (out .entry)) at (lineText line content) ⌝ }
 {
-    let mut text = [0u8; 48];
+    let mut text = [0u8; ROOM];
     let length = put_line(&mut text, line, content);
     fit(out, at, &text[..length])
 }

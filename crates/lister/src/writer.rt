@@ -15,7 +15,7 @@ pub struct Writer<'a> {
 pub fn new<'a>(out: &'a mut [u8]) -> Writer<'a>
     ensures { λ r. ⌜ (r .out ≡ out .entry) × (r .at ≡ 0) ⌝ }
 {
-    Writer { out: out, at: 0 }
+    Writer { out, at: 0 }
 }
 
 // Puts a line, if there is room for all of it.

@@ -30,7 +30,7 @@ pub fn refusal(number: u32, place: usize) {
 
 // One line of a card's text. False where there is none.
 fn text_line(image: &[u8], line: usize) -> bool {
-    let mut out = [0u8; 48];
+    let mut out = [0u8; lister::ROOM];
     match lister::list_line(image, line, &mut out) {
         Listing::Written { length } => {
             start(&out, length);

@@ -19,7 +19,7 @@ returns : tie.Need-returns
 returns c = rw (c .before .l .given .1)
 
 returns-2 : tie.Need-returns-2
-returns-2 c = search needs
+returns-2 c = rw (c .enum-told .given .1)
 
 returns-3 : tie.Need-returns-3
 returns-3 c = rw (c .before .l2 .given .1)
