@@ -1,15 +1,15 @@
--- `listings::print_all` is safe and ends. The measure is the number of images that are left. Assumes nothing.
+-- `streams::print_all` is safe and ends. The measure is the number of frames that are left. Assumes nothing.
 use mathlib.Core.Path.{_≡_, refl}
 use borrow.Author.Needs.{needs}
 use lib.ListN.{length}
-use Rattle.listings.proofs.print_all.Statement.{statement}
-use Rattle.listings.proofs.print_all.Tie as tie
+use Rattle.streams.proofs.print_all.Statement.{statement}
+use Rattle.streams.proofs.print_all.Tie as tie
 
 abbrev Inv-loop : tie.InvT-loop
-Inv-loop buffer₀ left₀ buffer left = length buffer ≡ length buffer₀
+Inv-loop show buffer₀ left₀ buffer left = length buffer ≡ length buffer₀
 
 abbrev μ-loop : tie.MeasureT-loop
-μ-loop buffer₀ left₀ buffer left = left
+μ-loop show buffer₀ left₀ buffer left = left
 
 loop-holds : tie.Need-loop-holds Inv-loop μ-loop
 loop-holds c = refl
