@@ -69,10 +69,10 @@ fn read_line(line: &[u8], index: usize) -> Line
     if end == line.len() {
         return Line::Bad(41);
     }
-    let Entry::Word(word) = read_item(&line[end + 1..]) else {
-        return Line::Bad(41);
-    };
-    placed(read_address(&line[..end]), word, index)
+    match read_item(&line[end + 1..]) {
+        Entry::Wrong => Line::Bad(41),
+        Entry::Word(word) => placed(read_address(&line[..end]), word, index),
+    }
 }
 
 // Reads the line that begins at `at`, which must end with a line feed.

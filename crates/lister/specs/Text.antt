@@ -1,8 +1,9 @@
 -- "Cards as text", sentence by sentence: the text of a card, as bytes.
-use Prim.Native.Nat.{ℕ, suc}
+use Prim.Native.Nat.{ℕ, suc, _+_, _*_}
 use mathlib.Core.Bool.{cond}
 use mathlib.Core.List.{List, [], _∷_, _++_}
 use mathlib.Core.Path.{_≡_, refl}
+use lib.ListN.{length}
 use Rattle.io.specs.Digits.{digits}
 use Rattle.instruction.specs.Rules.{ruleOf}
 use Rattle.instruction.specs.Word.{opcodeOf, operandOf}
@@ -54,3 +55,8 @@ p2-text = refl
 longest-line : instructionLine 4095 25165824 ≡ bytes "4095 loadc -8388608\n"
 unfolding bytes decimal line names places split
 longest-line = refl
+
+-- "a text can pass 64 KiB": the longest has 81,931 bytes
+longest : length (headerLine 4096) + 4096 * length (instructionLine 4095 25165824) ≡ 81931
+unfolding bytes decimal line names places split
+longest = refl

@@ -10,6 +10,8 @@ ghost use Rattle.lister.specs.Text.{addressOf, headerLine, instructionLi
 // More bytes than any line has.
 pub const ROOM: usize = 48;
 
+const LINE_FEED: u8 = b'\n';
+
 // The last digit of a number.
 fn digit(n: usize) -> u8
     ensures { λ r. ⌜ r ≡ glyph (n % 10) ⌝ }
@@ -50,7 +52,7 @@ fn put_instruction(out: &mut [u8], index: usize, w: u32) -> usize
     at = text::put_byte(out, at, b' ');
     at = names::put_name(out, at, instruction::opcode(w) as usize);
     at = put_operand(out, at, w);
-    text::put_byte(out, at, b'\n')
+    text::put_byte(out, at, LINE_FEED)
 }
 
 fn put_header(out: &mut [u8], cells: u32) -> usize
@@ -60,7 +62,7 @@ fn put_header(out: &mut [u8], cells: u32) -> usize
 {
     let mut at = text::put_bytes(out, 0, b"cells ");
     at = text::put_decimal(out, at, cells as u64);
-    text::put_byte(out, at, b'\n')
+    text::put_byte(out, at, LINE_FEED)
 }
 
 // Line 0 is the header, line i + 1 that of instruction i.

@@ -33,17 +33,11 @@ part-read-item-end c = search needs
 read-item-requires : tie.Need-read-item-requires
 read-item-requires c κs = search needs
 
-enum-known-word : tie.Need-enum-known-word
-enum-known-word c = search needs
-
 enum-told : tie.Need-enum-told
 enum-told c = search needs
 
-returns-2 : tie.Need-returns-2
-returns-2 c =
-    let least : c .before .before .before .before .before .find .result < length (now (c .before .before .before .before .before .before .before .args .line)) = omega (arith, c .before .before .before .before .before .find .ensures .1, c .before .before .before .before .if1 .left) in
-    let item = sym (c .before .before .read-item .ensures) ∙ c .enum-told .given .1 in
-    sym (ap (λ (l : Line). codedLine l (c .before .before .before .before .before .before .before .args .index)) (line-wrong (now (c .before .before .before .before .before .before .before .args .line)) (c .before .before .before .before .before .find .result) (c .before .before .before .before .before .find .ensures .0) least item))
+enum-known-word : tie.Need-enum-known-word
+enum-known-word c = search needs
 
 slice-aggregate-read-address : tie.Need-slice-aggregate-read-address
 slice-aggregate-read-address c = sym (length-take-le _ _ (c .before .before .before .before .before .before .before .find .ensures .1))
@@ -53,6 +47,12 @@ read-address-requires c κs = search needs
 
 placed-requires : tie.Need-placed-requires
 placed-requires c κs = search needs
+
+returns-2 : tie.Need-returns-2
+returns-2 c =
+    let least : c .before .before .before .before .before .find .result < length (now (c .before .before .before .before .before .before .before .args .line)) = omega (arith, c .before .before .before .before .before .find .ensures .1, c .before .before .before .before .if1 .left) in
+    let item = sym (c .before .before .read-item .ensures) ∙ c .enum-told .given .1 in
+    sym (ap (λ (l : Line). codedLine l (c .before .before .before .before .before .before .before .args .index)) (line-wrong (now (c .before .before .before .before .before .before .before .args .line)) (c .before .before .before .before .before .find .result) (c .before .before .before .before .before .find .ensures .0) least item))
 
 returns-3 : tie.Need-returns-3
 returns-3 c =
@@ -71,10 +71,10 @@ read-line-spec =
     part-read-item-start
     part-read-item-end
     read-item-requires
-    enum-known-word
     enum-told
-    returns-2
+    enum-known-word
     slice-aggregate-read-address
     read-address-requires
     placed-requires
+    returns-2
     returns-3)
