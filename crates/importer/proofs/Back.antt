@@ -4,7 +4,7 @@ use mathlib.Core.Bool.{Bool, true, false, cond, _&&_}
 use mathlib.Core.List.{List, [], _∷_, _++_}
 use mathlib.Core.Option.{Option, none, some}
 use mathlib.Core.Path.{_≡_, refl, sym, _∙_, ap}
-use lib.IntN.{ℤ, pos}
+use lib.IntN.{ℤ}
 use lib.ListN.{length}
 use lib.Seq.{append-snoc}
 use Rattle.instruction.specs.Rules.{allows, ruleOf}
@@ -17,14 +17,12 @@ use Rattle.digits.proofs.Undone.{reads-back}
 use Rattle.words.specs.Words.{join, same, split}
 use Rattle.words.proofs.Clash.{impossible}
 use Rattle.words.proofs.Cuts.{join-split, same-is}
-use Rattle.names.specs.Names.{hasOperand, nameOf, opcodeNamed}
-use Rattle.names.specs.declared.Named.{Named}
-use Rattle.names.specs.declared.Named.the-variants.{Opcode, Unknown}
+use Rattle.names.specs.Names.{hasOperand, nameOf}
 use Rattle.names.proofs.Table.{named-is}
 use Rattle.lister.specs.Text.{addressOf, cellsWord, headerLine, instructionLine, instructionLines, operandWords, textOf}
-use Rattle.importer.specs.Forms.{Item, Lines, bad, bareItem, card, fullItem, good, headed, headerRead, itemRead, lastRead, lineRead, linesRead, operandRead, right, textRead}
+use Rattle.importer.specs.Forms.{Item, Lines, bad, card, good, headed, headerRead, itemRead, lastRead, lineRead, linesRead, right, textRead}
 use Rattle.importer.specs.Importing.{firstAgainst, inBits, said, wordOf, wordsOf}
-use Rattle.importer.proofs.Judged.{AllNamed, first-of, lines-named, spells, word}
+use Rattle.importer.proofs.Judged.{AllNamed, Operands, first-of, lines-named, spells, spelt, word}
 use Rattle.importer.proofs.Words.{address-back, line-is, operand-back, told}
 
 -- ---- an instruction's words
@@ -33,33 +31,15 @@ use Rattle.importer.proofs.Words.{address-back, line-is, operand-back, 
 abbrev Written : List (List ℕ) → Item → Type 0
 Written words item = words ≡ nameOf (item .opcode) ∷ cond (hasOperand (ruleOf (item .opcode))) (signed (item .operand) ∷ []) []
 
-bare-back : (name : List ℕ) (n : Named) (item : Item) → opcodeNamed name ≡ n → bareItem n ≡ some item → Written (name ∷ []) item
-bare-back name Unknown item e q = impossible cc
-bare-back name (Opcode opcode) item e q = by (hasOperand (ruleOf opcode)) refl q
-  where
-    by : (t : Bool) → hasOperand (ruleOf opcode) ≡ t → cond t none (some (record { opcode = opcode; operand = pos 0 })) ≡ some item → Written (name ∷ []) item
-    by true t r = impossible cc
-    by false t r = let same : opcode ≡ item .opcode = cc in rw (← same, t, named-is name opcode e .1)
-
-full-back : (name k : List ℕ) (n : Named) (o : Option ℤ) (item : Item) → inBits (item .operand) ≡ true → opcodeNamed name ≡ n → operandRead k ≡ o → fullItem n o ≡ some item → Written (name ∷ k ∷ []) item
-full-back name k Unknown o item fits e p q = impossible cc
-full-back name k (Opcode opcode) none item fits e p q = impossible cc
-full-back name k (Opcode opcode) (some z) item fits e p q = by (hasOperand (ruleOf opcode)) refl q
-  where
-    by : (t : Bool) → hasOperand (ruleOf opcode) ≡ t → cond t (some (record { opcode = opcode; operand = z })) none ≡ some item → Written (name ∷ k ∷ []) item
-    by true t r =
-        let same : opcode ≡ item .opcode = cc in
-        let number : z ≡ item .operand = cc in
-        let text : signed (item .operand) ≡ k = operand-back k (item .operand) (p ∙ ap some number) (told (item .operand) fits) in
-        rw (← same, t, named-is name opcode e .1, text)
-    by false t r = impossible cc
+operands-back : (others : List (List ℕ)) (item : Item) → inBits (item .operand) ≡ true → Operands others item → others ≡ cond (hasOperand (ruleOf (item .opcode))) (signed (item .operand) ∷ []) []
+operands-back [] item fits h = rw h
+operands-back (k ∷ []) item fits h = rw (h .0, operand-back k (item .operand) (h .1) (told (item .operand) fits))
+operands-back (k ∷ l ∷ more) item fits h = absurd h
 
 item-back : (words : List (List ℕ)) (item : Item) → inBits (item .operand) ≡ true → itemRead words ≡ some item → Written words item
-unfolding itemRead
-item-back [] item fits e = impossible cc
-item-back (name ∷ []) item fits e = bare-back name (opcodeNamed name) item refl e
-item-back (name ∷ k ∷ []) item fits e = full-back name k (opcodeNamed name) (operandRead k) item fits refl refl e
-item-back (name ∷ k ∷ l ∷ more) item fits e = impossible cc
+item-back words item fits e =
+    let s = spelt words item e in
+    s .are ∙ rw (named-is (s .name) (item .opcode) (s .known) .1) (ap (λ (rest : List (List ℕ)). s .name ∷ rest) (operands-back (s .others) item fits (s .follow)))
 
 -- ---- a line
 

@@ -33,29 +33,51 @@ abbrev pub AllNamed : List Item → Type 0
 AllNamed [] = Unit
 AllNamed (item ∷ items) = (item .opcode < 38) × AllNamed items
 
-bare-named : (name : List ℕ) (n : Named) (item : Item) → opcodeNamed name ≡ n → bareItem n ≡ some item → item .opcode < 38
-bare-named name Unknown item e q = impossible cc
-bare-named name (Opcode opcode) item e q = by (hasOperand (ruleOf opcode)) q
-  where
-    by : (t : Bool) → cond t none (some (record { opcode = opcode; operand = pos 0 })) ≡ some item → item .opcode < 38
-    by true r = impossible cc
-    by false r = let same : opcode ≡ item .opcode = cc in omega (arith, same, named-is name opcode e .0)
+-- what follows the name of an instruction: nothing, or its operand
+abbrev pub Operands : List (List ℕ) → Item → Type 0
+Operands [] item = hasOperand (ruleOf (item .opcode)) ≡ false
+Operands (k ∷ []) item = (hasOperand (ruleOf (item .opcode)) ≡ true) × (operandRead k ≡ some (item .operand))
+Operands (k ∷ l ∷ more) item = ⊥
 
-full-named : (name : List ℕ) (n : Named) (o : Option ℤ) (item : Item) → opcodeNamed name ≡ n → fullItem n o ≡ some item → item .opcode < 38
-full-named name Unknown o item e q = impossible cc
-full-named name (Opcode opcode) none item e q = impossible cc
-full-named name (Opcode opcode) (some k) item e q = by (hasOperand (ruleOf opcode)) q
+-- an instruction by the words that spell it
+pub record Spelt (words : List (List ℕ)) (item : Item) : Type 0 where
+  pub name : List ℕ
+  pub others : List (List ℕ)
+  pub are : words ≡ name ∷ others
+  pub known : opcodeNamed name ≡ Opcode (item .opcode)
+  pub follow : Operands others item
+
+bare : (name : List ℕ) (n : Named) (item : Item) → opcodeNamed name ≡ n → bareItem n ≡ some item → Spelt (name ∷ []) item
+bare name Unknown item e q = impossible cc
+bare name (Opcode opcode) item e q = by (hasOperand (ruleOf opcode)) refl q
   where
-    by : (t : Bool) → cond t (some (record { opcode = opcode; operand = k })) none ≡ some item → item .opcode < 38
-    by true r = let same : opcode ≡ item .opcode = cc in omega (arith, same, named-is name opcode e .0)
-    by false r = impossible cc
+    by : (t : Bool) → hasOperand (ruleOf opcode) ≡ t → cond t none (some (record { opcode = opcode; operand = pos 0 })) ≡ some item → Spelt (name ∷ []) item
+    by true t r = impossible cc
+    by false t r =
+        let same : opcode ≡ item .opcode = cc in
+        record { name = name; others = []; are = refl; known = e ∙ ap Opcode same; follow = rw (← same) t }
+
+full : (name k : List ℕ) (n : Named) (o : Option ℤ) (item : Item) → opcodeNamed name ≡ n → operandRead k ≡ o → fullItem n o ≡ some item → Spelt (name ∷ k ∷ []) item
+full name k Unknown o item e p q = impossible cc
+full name k (Opcode opcode) none item e p q = impossible cc
+full name k (Opcode opcode) (some z) item e p q = by (hasOperand (ruleOf opcode)) refl q
+  where
+    by : (t : Bool) → hasOperand (ruleOf opcode) ≡ t → cond t (some (record { opcode = opcode; operand = z })) none ≡ some item → Spelt (name ∷ k ∷ []) item
+    by true t r =
+        let same : opcode ≡ item .opcode = cc in
+        let number : z ≡ item .operand = cc in
+        record { name = name; others = k ∷ []; are = refl; known = e ∙ ap Opcode same; follow = (rw (← same) t, p ∙ ap some number) }
+    by false t r = impossible cc
+
+pub spelt : (words : List (List ℕ)) (item : Item) → itemRead words ≡ some item → Spelt words item
+unfolding itemRead
+spelt [] item e = impossible cc
+spelt (name ∷ []) item e = bare name (opcodeNamed name) item refl e
+spelt (name ∷ k ∷ []) item e = full name k (opcodeNamed name) (operandRead k) item refl refl e
+spelt (name ∷ k ∷ l ∷ more) item e = impossible cc
 
 item-named : (words : List (List ℕ)) (item : Item) → itemRead words ≡ some item → item .opcode < 38
-unfolding itemRead
-item-named [] item e = impossible cc
-item-named (name ∷ []) item e = bare-named name (opcodeNamed name) item refl e
-item-named (name ∷ k ∷ []) item e = full-named name (opcodeNamed name) (operandRead k) item refl e
-item-named (name ∷ k ∷ l ∷ more) item e = impossible cc
+item-named words item e = let s = spelt words item e in named-is (s .name) (item .opcode) (s .known) .0
 
 -- an item that a line spells, by its words
 pub record Spells (words : List (List ℕ)) (address : ℕ) (item : Item) : Type 0 where

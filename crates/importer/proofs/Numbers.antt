@@ -45,14 +45,14 @@ minus-within n ne h = rw (ne-eqb n 0 ne, le-ltb 8388608 n h)
 
 -- ---- a capped number tells the same
 
+larger : (bound v : ℕ) → bound < 1000000000 → bound < v → bound < capped v
+larger bound v h over = less-or-not v 1000000000 (λ e. rw (lt-ltb v 1000000000 e) over) (λ e. rw (capped-large v e) h)
+
 plain-capped : (v : ℕ) → plainNumber (capped v) ≡ codedOperand (some (pos v))
 plain-capped v =
     less-or-not 8388607 v
-    (λ over. sym (beyond (capped v) (larger v over)) ∙ rw (lt-leb v 8388607 over))
+    (λ over. sym (beyond (capped v) (larger 8388607 v (omega arith) over)) ∙ rw (lt-leb v 8388607 over))
     (λ most. rw (capped-small v (omega (arith, most)), le-leb v 8388607 most) (sym (within v most)))
-  where
-    larger : (v : ℕ) → 8388607 < v → 8388607 < capped v
-    larger v over = less-or-not v 1000000000 (λ e. rw (lt-ltb v 1000000000 e) over) (λ e. rw (capped-large v e) (omega arith))
 
 minus-capped : (v : ℕ) → minusNumber (capped v) ≡ codedOperand (cond (not (eqb v 0)) (some (negsuc (v - 1))) none)
 minus-capped v =
@@ -61,14 +61,12 @@ minus-capped v =
     less-or-not 8388608 v
     (λ over.
     let less : leb (v - 1) 8388607 ≡ false = lt-leb (v - 1) 8388607 (omega (arith, over)) in
-    rw (ne-eqb v 0 ne, less) (sym (minus-beyond (capped v) (λ z. omega (arith, z, larger v over)) (larger v over))))
+    let large = larger 8388608 v (omega arith) over in
+    rw (ne-eqb v 0 ne, less) (sym (minus-beyond (capped v) (λ z. omega (arith, z, large)) large)))
     (λ most.
     let less : leb (v - 1) 8388607 ≡ true = le-leb (v - 1) 8388607 (omega (arith, most)) in
     let bits : 16777215 - (v - 1) ≡ 16777216 - v = omega (arith, ne) in
     rw (ne-eqb v 0 ne, less, capped-small v (omega (arith, most)), bits) (sym (minus-within v ne most))))
-  where
-    larger : (v : ℕ) → 8388608 < v → 8388608 < capped v
-    larger v over = less-or-not v 1000000000 (λ e. rw (lt-ltb v 1000000000 e) over) (λ e. rw (capped-large v e) (omega arith))
 
 module _ (word : List ℕ) where
   pub plain-is : (n : ℕ) → decimalOf word ≡ decimal.Value n → plainNumber n ≡ codedOperand (plainRead word)
