@@ -5,7 +5,7 @@ use mathlib.Core.Bool.{Bool, true, false, cond, _&&_}
 use mathlib.Core.List.{List}
 use mathlib.Core.Logic.{_≢_}
 use native.Mathlib.Omega.{arith}
-use lib.Dec.{eqb, leb, ltb, lit≤}
+use lib.Dec.{eqb, leb, lit≤, ltb}
 use lib.IntN.{ℤ, pos, negsuc}
 use lib.ListN.{length, getD, set, replicate, length-set}
 use lib.Seq.{getD-set-same, length-sets}
@@ -90,21 +90,21 @@ module _ (size n : ℕ) (s : State) (book : Book) (y : Runs size s book) (short 
 
   exec-load : Done instr.load
   unfolding exec eventOf fed
-  exec-load = ends-needs _ 1 _ _ (λ h. ends-within _ _ _ _ _ (lit≤ tt) (lit≤ tt) (λ a e below. poke _ _))
+  exec-load = ends-needs _ 1 _ _ (λ h. ends-within _ _ _ _ _ refl (λ a e below. poke _ _))
 
   exec-store : Done instr.store
   unfolding exec eventOf fed
   exec-store =
       ends-needs _ 2 _ _
-      (λ h. ends-within _ _ _ _ _ (lit≤ tt) (lit≤ tt) (λ a e below. keeps _ _ _ _ (one-set a _) (resized _ (omega (arith, room)))))
+      (λ h. ends-within _ _ _ _ _ refl (λ a e below. keeps _ _ _ _ (one-set a _) (resized _ (omega (arith, room)))))
 
   exec-loadr : (k : ℤ) → Done (instr.loadr k)
   unfolding exec eventOf fed
-  exec-loadr k = ends-rooms _ 1 _ _ (λ h. ends-within _ _ _ _ _ (lit≤ tt) (lit≤ tt) (λ i e below. push _ h))
+  exec-loadr k = ends-rooms _ 1 _ _ (λ h. ends-within _ _ _ _ _ refl (λ i e below. push _ h))
 
   exec-storer : (k : ℤ) → Done (instr.storer k)
   unfolding exec eventOf fed
-  exec-storer k = ends-needs _ 1 _ _ (λ h. ends-within _ _ _ _ _ (lit≤ tt) (lit≤ tt) (λ i e below. poke i _))
+  exec-storer k = ends-needs _ 1 _ _ (λ h. ends-within _ _ _ _ _ refl (λ i e below. poke i _))
 
   exec-alloc : (k : ℕ) → Done (instr.alloc k)
   unfolding exec eventOf fed
@@ -191,7 +191,7 @@ module _ (size n : ℕ) (s : State) (book : Book) (y : Runs size s book) (short 
   exec-call =
       ends-needs _ 3 _ _
       (λ h.
-      ends-within _ _ _ _ _ (lit≤ tt) (lit≤ tt)
+      ends-within _ _ _ _ _ refl
       (λ a e below.
       keeps _ _ _ _ (one-set _ _)
       (record { pc-fits = omega arith; cells-fit = room; fp-least = omega arith; fp-most = omega (arith, room) })))
@@ -202,12 +202,12 @@ module _ (size n : ℕ) (s : State) (book : Book) (y : Runs size s book) (short 
     where
       made : (v : ℤ) → Ends (Leaves instr.new) (fresh size n s v)
       made (pos k) =
-          ends-cond _ (eqb k 0) _ _ (λ e. (lit≤ tt, lit≤ tt))
+          ends-cond _ (eqb k 0) _ _ (λ e. refl)
           (λ e.
           ends-cond _ (leb (s .regs .free + k) (shared size)) _ _
           (λ fits. stays _ _ _ _ _ (one-set _ _) (y .steady .frame) (omega (arith, y .steady .free-least)) (leb-true _ _ fits))
           (λ full. poke _ _))
-      made (negsuc k) = (lit≤ tt, lit≤ tt)
+      made (negsuc k) = refl
 
   -- ---- threads
 
@@ -237,7 +237,7 @@ module _ (size n : ℕ) (s : State) (book : Book) (y : Runs size s book) (short 
                     stuck-lives = λ e. absurd (omega (arith, e));
                     halted-empty = λ e none. absurd (y .some none);
                   };
-              number = record { least = λ e. absurd (omega (arith, e)); most = λ e. absurd (omega (arith, e)); none = λ e. y .marked .sound };
+              number = record { listed = λ e. absurd (omega (arith, e)); none = λ e. y .marked .sound };
             };
       }
 
@@ -253,7 +253,7 @@ module _ (size n : ℕ) (s : State) (book : Book) (y : Runs size s book) (short 
       (λ k.
       let low : 2 ≤ fp = leb-true 2 fp (and-first (leb 2 fp) (ltb fp (s .regs .fp)) k) in
       let high : fp < s .regs .fp = ltb-true fp (s .regs .fp) (and-second (leb 2 fp) (ltb fp (s .regs .fp)) k) in
-      ends-within _ _ _ _ _ (lit≤ tt) (lit≤ tt)
+      ends-within _ _ _ _ _ refl
       (λ pc i below.
       rw (← e)
       (unfold fed in keeps _ _ _ _ refl
@@ -263,15 +263,15 @@ module _ (size n : ℕ) (s : State) (book : Book) (y : Runs size s book) (short 
         fp-least = low;
         fp-most = omega (arith, y .steady .frame .fp-most);
       }))))
-      (λ k. (lit≤ tt, lit≤ tt))
+      (λ k. refl)
   returns (negsuc k) e =
       ends-cond _ (eqb k 0) _ _
       (λ i. rw (← e, eqb-true k 0 i) (ends-right size s book y (cell size s (s .regs .fp - 2))))
-      (λ i. (lit≤ tt, lit≤ tt))
+      (λ i. refl)
 
   exec-return : Done instr.return
   unfolding exec
-  exec-return = ends-cond _ (ltb (s .regs .fp) (s .regs .cells)) _ _ (λ e. returns _ refl) (λ e. (lit≤ tt, lit≤ tt))
+  exec-return = ends-cond _ (ltb (s .regs .fp) (s .regs .cells)) _ _ (λ e. returns _ refl) (λ e. refl)
 
   -- the place of a condition, or of a thread's end, is no mutex's
   no-mutex-c : (c m : ℕ) → m < mutexLimit size → atCondition size c ≢ atMutex m
@@ -291,7 +291,7 @@ module _ (size n : ℕ) (s : State) (book : Book) (y : Runs size s book) (short 
   exec-join =
       ends-needs _ 1 _ _
       (λ h.
-      ends-within _ _ _ _ _ (lit≤ tt) (lit≤ tt)
+      ends-within _ _ _ _ _ refl
       (λ t e made.
       ends-cond _ (eqb (placeOf (s .tables) t) ended) _ _
       (λ k. active-landed size s book (y .steady) (y .marked) (y .some))
@@ -304,8 +304,8 @@ module _ (size n : ℕ) (s : State) (book : Book) (y : Runs size s book) (short 
   exec-finalize =
       ends-needs _ 1 _ _
       (λ h.
-      ends-within _ _ _ _ _ (lit≤ tt) (lit≤ tt)
-      (λ t e made. ends-cond _ (eqb (placeOf (s .tables) t) ended) _ _ (λ k. poke _ _) (λ k. (lit≤ tt, lit≤ tt))))
+      ends-within _ _ _ _ _ refl
+      (λ t e made. ends-cond _ (eqb (placeOf (s .tables) t) ended) _ _ (λ k. poke _ _) (λ k. refl)))
 
   -- other tables, a book that was fed, and other counts, with the thread still running
   changed : (store : List ℤ) (tables : Tables) (cells threads mutexes conditions : ℕ) (book′ : Book) → length store ≡ length (s .store) → cells ≤ 128 →
@@ -377,7 +377,7 @@ module _ (size n : ℕ) (s : State) (book : Book) (y : Runs size s book) (short 
   exec-lock =
       ends-needs _ 1 _ _
       (λ h.
-      ends-within _ _ _ _ _ (lit≤ tt) (lit≤ tt)
+      ends-within _ _ _ _ _ refl
       (λ m e made.
       ends-cond _ (eqb (ownerOf (s .tables) m) size) _ _
       (λ k. rw e (changed _ _ _ _ _ _ _ refl (omega (arith, room)) (takes (y .steady .both) m (y .some) made (eqb-true _ _ k))))
@@ -389,14 +389,14 @@ module _ (size n : ℕ) (s : State) (book : Book) (y : Runs size s book) (short 
   ends-owns P m o f =
       ends-cond P (eqb (ownerOf (s .tables) m) (s .regs .thread)) o (fault 28)
       (λ e. f (λ none. y .some (sym (eqb-true _ _ e) ∙ none)))
-      (λ e. (lit≤ tt, lit≤ tt))
+      (λ e. refl)
 
   exec-unlock : Done instr.unlock
   unfolding exec eventOf
   exec-unlock =
       ends-needs _ 1 _ _
       (λ h.
-      ends-within _ _ _ _ _ (lit≤ tt) (lit≤ tt)
+      ends-within _ _ _ _ _ refl
       (λ m e made.
       ends-owns _ m _
       (λ held. rw e (changed _ _ _ _ _ _ _ refl (omega (arith, room)) (gives (y .steady .both) m (s .regs .thread) made held)))))
@@ -406,9 +406,9 @@ module _ (size n : ℕ) (s : State) (book : Book) (y : Runs size s book) (short 
   exec-wait =
       ends-needs _ 2 _ _
       (λ h.
-      ends-within _ _ _ _ _ (lit≤ tt) (lit≤ tt)
+      ends-within _ _ _ _ _ refl
       (λ c e made-c.
-      ends-within _ _ _ _ _ (lit≤ tt) (lit≤ tt)
+      ends-within _ _ _ _ _ refl
       (λ m i made-m. ends-owns _ m _ (λ held. rw i (wait-right size _ book popped-runs c m made-c made-m held)))))
 
   exec-signal : Done instr.signal
@@ -416,7 +416,7 @@ module _ (size n : ℕ) (s : State) (book : Book) (y : Runs size s book) (short 
   exec-signal =
       ends-needs _ 1 _ _
       (λ h.
-      ends-within _ _ _ _ _ (lit≤ tt) (lit≤ tt)
+      ends-within _ _ _ _ _ refl
       (λ c e made. changed _ _ _ _ _ _ book refl (omega (arith, room)) (wakes-first (y .steady .both) (atCondition size c) (omega arith) (no-mutex-c c))))
 
   exec-broadcast : Done instr.broadcast
@@ -424,7 +424,7 @@ module _ (size n : ℕ) (s : State) (book : Book) (y : Runs size s book) (short 
   exec-broadcast =
       ends-needs _ 1 _ _
       (λ h.
-      ends-within _ _ _ _ _ (lit≤ tt) (lit≤ tt)
+      ends-within _ _ _ _ _ refl
       (λ c e made. changed _ _ _ _ _ _ book refl (omega (arith, room)) (wakes-all (y .steady .both) (atCondition size c) (omega arith) (no-mutex-c c) .0)))
 
   -- what create pushes is top afterwards
@@ -458,7 +458,7 @@ module _ (size n : ℕ) (s : State) (book : Book) (y : Runs size s book) (short 
   exec-create =
       ends-needs _ 2 _ _
       (λ h.
-      ends-within _ _ _ _ _ (lit≤ tt) (lit≤ tt)
+      ends-within _ _ _ _ _ refl
       (λ pc e below.
       ends-cond (Leaves instr.create) (ltb (s .regs .threads) size) _ _
       (λ k. made pc below h (ltb-true _ _ k))

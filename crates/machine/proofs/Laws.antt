@@ -183,4 +183,4 @@ fault-numbers size image cells box number r h runs e =
     let s : State = stateOf size box in
     let after = carried-right size (cardOf image) (card-of image cells r) s (bookFor size box) (sound-held size box h .right) runs in
     let here : Right size (withRegs s (stopped (s .regs) number)) (bookOf (bookFor size box) []) = rw e at after in
-    (here .number .least refl, here .number .most refl)
+    here .number .listed refl

@@ -40,15 +40,14 @@ test-line size line l = true-and _ _ (none-below size line (l .no-other)) (true-
 plain-fault : (r : Registers) → faultFits r ≡ true → Fault (r .state) (r .fault)
 plain-fault r e =
     record {
-      least = λ h. leb-true 20 (r .fault) (and-first _ _ (rw (eq-eqb (r .state) 3 h) at e));
-      most = λ h. leb-true (r .fault) 30 (and-second (leb 20 (r .fault)) _ (rw (eq-eqb (r .state) 3 h) at e));
+      listed = λ h. rw (eq-eqb (r .state) 3 h) at e;
       none = λ h. eqb-true (r .fault) 0 (rw (ne-eqb (r .state) 3 h) at e);
     }
 
 test-fault : (r : Registers) → Fault (r .state) (r .fault) → faultFits r ≡ true
 test-fault r f =
     true-cond (eqb (r .state) 3) _ _
-    (λ a. let h = eqb-true (r .state) 3 a in true-and _ _ (le-leb 20 (r .fault) (f .least h)) (le-leb (r .fault) 30 (f .most h)))
+    (λ a. f .listed (eqb-true _ _ a))
     (λ a. eq-eqb _ _ (f .none (eqb-false _ _ a)))
 
 module _ (size : ℕ) (r : Registers) (tables : Tables) (t : ℕ) where

@@ -57,8 +57,7 @@ active-right size s book y m some =
           };
       number =
           record {
-            least = λ e. absurd (omega (arith, e, m .runs));
-            most = λ e. absurd (omega (arith, e, m .runs));
+            listed = λ e. absurd (omega (arith, e, m .runs));
             none = λ e. m .sound;
           };
     }
@@ -107,7 +106,7 @@ next-right size s book y m none = by-queue (queue (s .tables) ready) refl
                   stuck-lives = λ k. record { who = who .which; there = who .less; alive = ltb-true _ _ (who .passes) };
                   halted-empty = λ k. absurd (omega (arith, k));
                 };
-            number = record { least = λ k. absurd (omega (arith, k)); most = λ k. absurd (omega (arith, k)); none = λ k. m .sound };
+            number = record { listed = λ k. absurd (omega (arith, k)); none = λ k. m .sound };
           };
         }
     by-life e false l =
@@ -125,7 +124,7 @@ next-right size s book y m none = by-queue (queue (s .tables) ready) refl
                   stuck-lives = λ k. absurd (omega (arith, k));
                   halted-empty = λ k h t below. ltb-false _ _ (some-false size (lives (s .tables)) l t below);
                 };
-            number = record { least = λ k. absurd (omega (arith, k)); most = λ k. absurd (omega (arith, k)); none = λ k. m .sound };
+            number = record { listed = λ k. absurd (omega (arith, k)); none = λ k. m .sound };
           };
         }
 

@@ -5,16 +5,17 @@ use mathlib.Core.Bool.{true, cond}
 use mathlib.Core.List.{List, [], _∷_, _++_}
 use mathlib.Core.Logic.{_≢_}
 use native.Mathlib.Omega.{arith}
-use lib.Dec.{eqb, ltb, lit≤}
+use lib.Dec.{eqb, ltb}
 use lib.ListN.{length, getD}
 use borrow.Author.Tests.{eqb-true, ltb-true, ne-eqb}
 use Rattle.machine.specs.Book.{Book, Entry, bookOf, eventOf, fed}
 use Rattle.machine.specs.Execution.{Outcome, done, exec, fault}
 use Rattle.machine.specs.Instructions.{Instruction, decoded}
-use Rattle.machine.specs.Registers.{faulted, isRunning, running}
+use Rattle.machine.specs.Registers.{faulted, isFault, isRunning, running}
 use Rattle.machine.specs.State.{State}
 use Rattle.machine.specs.Step.{Ran, carried, entered, faultedAt, onward, run, step}
 use Rattle.machine.proofs.Booked.{entry}
+use Rattle.machine.proofs.Every.{never}
 use Rattle.machine.proofs.Execution.{exec-right}
 use Rattle.machine.proofs.Lists.{cases}
 use Rattle.machine.proofs.Outcomes.{Ends}
@@ -26,9 +27,9 @@ abbrev pub After : ℕ → Book → Ran → Type 0
 After size book ran = Right size (ran .state) (bookOf book (ran .trace))
 
 -- a fault marks the machine and changes nothing else
-pub fault-right : (size : ℕ) (s : State) (book : Book) → Right size s book → s .regs .thread ≢ size → (k : ℕ) → 20 ≤ k → k ≤ 30 → After size book (faultedAt s k)
+pub fault-right : (size : ℕ) (s : State) (book : Book) → Right size s book → s .regs .thread ≢ size → (k : ℕ) → isFault k ≡ true → After size book (faultedAt s k)
 unfolding bookOf
-fault-right size s book r some k low high =
+fault-right size s book r some k listed =
     record {
       steady =
           record {
@@ -49,7 +50,7 @@ fault-right size s book r some k low high =
             stuck-lives = λ e. absurd (omega (arith, e));
             halted-empty = λ e. absurd (omega (arith, e));
           };
-      number = record { least = λ e. low; most = λ e. high; none = λ e. absurd (e refl) };
+      number = record { listed = λ e. listed; none = λ e. absurd (e refl) };
     }
 
 -- a running machine has a running thread and no fault
@@ -67,7 +68,7 @@ module _ (size : ℕ) (words : List ℕ) (card : Card words) where
       Ends (λ u. Landed size u (fed book (entry (s .regs .thread) (eventOf size (onward s) i u)))) o → After size book (entered size s (onward s) i o)
   unfolding bookOf
   outcome s book r some i (done u) e = e .right
-  outcome s book r some i (fault k) e = fault-right size s book r some k (e .0) (e .1)
+  outcome s book r some i (fault k) e = fault-right size s book r some k e
 
   -- the instruction's outcome, where PC is in the card
   landed : (s : State) (book : Book) → Right size s book → isRunning (s .regs) ≡ true → s .regs .pc < length words →
@@ -101,7 +102,7 @@ module _ (size : ℕ) (words : List ℕ) (card : Card words) where
   -- an instruction that was carried out counts 1, and a fault 0: the state afterwards tells which it was
   counted : (s : State) (book : Book) (i : Instruction) (o : Outcome) → Ends (λ u. Landed size u (fed book (entry (s .regs .thread) (eventOf size (onward s) i u)))) o →
       cond (eqb (entered size s (onward s) i o .state .regs .state) faulted) 0 1 ≡ length (entered size s (onward s) i o .trace)
-  counted s book i (done u) e = rw (ne-eqb (u .regs .state) faulted (λ k. omega (arith, e .right .number .least k, e .sound)))
+  counted s book i (done u) e = rw (ne-eqb (u .regs .state) faulted (λ k. never (rw (e .sound) at (e .right .number .listed k))))
   counted s book i (fault k) e = refl
 
   pub carried-count : (s : State) (book : Book) → Right size s book → isRunning (s .regs) ≡ true →
@@ -122,7 +123,7 @@ module _ (size : ℕ) (words : List ℕ) (card : Card words) where
       rw k
       (outcome s book r (some-thread size s book r e) i (exec size (length words) (onward s) i)
       (landed s book r e below)))
-      (λ k. rw k (fault-right size s book r (some-thread size s book r e) 20 (lit≤ tt) (lit≤ tt)))
+      (λ k. rw k (fault-right size s book r (some-thread size s book r e) 20 refl))
 
   pub step-right : (s : State) (book : Book) → Right size s book → After size book (step size words s)
   unfolding step bookOf

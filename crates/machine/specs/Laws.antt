@@ -12,7 +12,7 @@ use Rattle.card.specs.declared.reader.Reading.the-variants as reading
 use Rattle.machine.specs.Book.{Entry}
 use Rattle.machine.specs.Calls.{Box, Called, answerOf, boxOf, cardOf, countOf, runCall, setUp, stateOf, stepCall, storeFits}
 use Rattle.machine.specs.Demand.{Call, callOf, played, runOn}
-use Rattle.machine.specs.Registers.{isRunning, stopped, zeros}
+use Rattle.machine.specs.Registers.{isFault, isRunning, stopped, zeros}
 use Rattle.machine.specs.Runner.{lent}
 use Rattle.machine.specs.Sessions.{card, word}
 use Rattle.machine.specs.Size.{full, shared, storeSize, tablesSize, valuesSize}
@@ -63,7 +63,7 @@ FaultNumbers =
     isRunning (box .regs) ≡ true →
     carried size (cardOf image) (stateOf size box)
     ≡ record { state = withRegs (stateOf size box) (stopped (box .regs) number); trace = [] } →
-    (20 ≤ number) × (number ≤ 30)
+    isFault number ≡ true
 
 -- "Numbers 1 to 8 alter nothing, and the registers come back as given with count 0"
 abbrev pub RefusedKeeps : Type 0

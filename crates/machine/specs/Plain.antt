@@ -1,12 +1,13 @@
 -- "Well formed", read plainly: what the test of WellFormed.antt says, clause by clause. proofs/Plain.antt proves that the test passes exactly
 -- where these hold.
 use Prim.Native.Nat.{ℕ, _<_, _≤_}
+use mathlib.Core.Bool.{true}
 use mathlib.Core.List.{List}
 use mathlib.Core.Logic.{_≢_}
 use mathlib.Core.Path.{_≡_}
 use lib.ListN.{getD}
 use Rattle.machine.specs.Lists.{count}
-use Rattle.machine.specs.Registers.{faulted, halted, running, stuck}
+use Rattle.machine.specs.Registers.{faulted, halted, isFault, running, stuck}
 use Rattle.machine.specs.Size.{conditionLimit, mutexLimit, shared}
 use Rattle.machine.specs.Tables.{Tables, active, atCondition, atEnd, atMutex, ended, ownerOf, placeOf, ready, unmade}
 use Rattle.machine.specs.declared.registers.Registers.{Registers}
@@ -73,8 +74,7 @@ pub record Mode (size state thread : ℕ) (tables : Tables) : Type 0 where
 
 -- "the fault number is one of the table from 20 up when faulted, else 0"
 pub record Fault (state fault : ℕ) : Type 0 where
-  pub least : state ≡ faulted → 20 ≤ fault
-  pub most : state ≡ faulted → fault ≤ 30
+  pub listed : state ≡ faulted → isFault fault ≡ true
   pub none : state ≢ faulted → fault ≡ 0
 
 pub record Formed (size : ℕ) (r : Registers) (tables : Tables) : Type 0 where

@@ -1,7 +1,7 @@
 -- "The machine": the four states and the registers, which go in by value and come back advanced.
 use Prim.Native.Nat.{ℕ, _+_, _-_}
-use mathlib.Core.Bool.{Bool}
-use lib.Dec.{eqb}
+use mathlib.Core.Bool.{Bool, _&&_}
+use lib.Dec.{eqb, leb}
 use lib.IntN.{ℤ, pos, _-ℤ_}
 use Rattle.machine.specs.declared.registers.Registers.{Registers}
 
@@ -145,6 +145,10 @@ advanced r = withPc r (r .pc + 1)
 -- another thread runs, with what was saved of it
 abbrev pub switched : Registers → ℕ → ℕ → ℕ → ℕ → Registers
 switched r thread pc cells fp = withFp (withCells (withPc (withState r (r .state) thread) pc) cells) fp
+
+-- "Numbers given when it can't be done", "the table from 20 up": which numbers are faults is said here alone
+abbrev pub isFault : ℕ → Bool
+isFault number = leb 20 number && leb number 30
 
 -- "Faults 20 up mark the machine faulted"; "the registers keep the number"
 abbrev pub stopped : Registers → ℕ → Registers

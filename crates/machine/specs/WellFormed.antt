@@ -6,7 +6,7 @@ use lib.Dec.{eqb, leb, ltb}
 use lib.IntN.{ℤ}
 use lib.ListN.{length, getD}
 use Rattle.machine.specs.Lists.{count, every, some}
-use Rattle.machine.specs.Registers.{faulted, halted, running, stuck}
+use Rattle.machine.specs.Registers.{faulted, halted, isFault, running, stuck}
 use Rattle.machine.specs.Size.{conditionLimit, mutexLimit, shared, tablesSize, valuesSize}
 use Rattle.machine.specs.Tables.{Tables, active, anyLive, ended, isAt, ownerOf, placeOf, ready, tablesOf, unmade}
 use Rattle.machine.specs.declared.registers.Registers.{Registers}
@@ -68,7 +68,7 @@ ownerFits size r tables m =
 
 -- "the fault number is one of the table from 20 up when faulted, else 0"
 abbrev pub faultFits : Registers → Bool
-faultFits r = cond (eqb (r .state) faulted) (inRange 20 30 (r .fault)) (eqb (r .fault) 0)
+faultFits r = cond (eqb (r .state) faulted) (isFault (r .fault)) (eqb (r .fault) 0)
 
 -- a thread is in the ready queue
 abbrev pub anyReady : ℕ → Tables → Bool

@@ -1,6 +1,7 @@
 // The registers' ranges. A chain of tests is grouped as in its definition.
 ghost use mathlib.Core.Path.{_≡_};
 ghost use Prim.Native.Nat.{_≤_};
+ghost use Rattle.machine.specs.Registers.{isFault};
 ghost use Rattle.machine.specs.WellFormed.{countsFit, faultFits, frameFits, inRange, registersFit};
 use machine::Registers;
 
@@ -33,12 +34,19 @@ pub fn registers_fit(r: Registers, size: usize) -> bool
             && (in_range(1, 128 * size, r.free) && (r.thread < r.threads || r.thread == size)))
 }
 
+// A number of the table from 20 up.
+fn is_fault(number: usize) -> bool
+    ensures { λ b. ⌜ b ≡ isFault number ⌝ }
+{
+    in_range(20, 30, number)
+}
+
 // A faulted machine has the number of its fault, any other has none.
 pub fn fault_fits(r: Registers) -> bool
     ensures { λ b. ⌜ b ≡ faultFits r ⌝ }
 {
     if r.state == 3 {
-        in_range(20, 30, r.fault)
+        is_fault(r.fault)
     } else {
         r.fault == 0
     }

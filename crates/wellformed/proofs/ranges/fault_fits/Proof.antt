@@ -4,14 +4,14 @@ use borrow.Author.Needs.{needs}
 use Rattle.wellformed.proofs.ranges.fault_fits.Statement.{statement}
 use Rattle.wellformed.proofs.ranges.fault_fits.Tie as tie
 
-in-range-requires : tie.Need-in-range-requires
-in-range-requires c κs = search needs
+is-fault-requires : tie.Need-is-fault-requires
+is-fault-requires c κs = search needs
 
 returns : tie.Need-returns
-returns c = rw (eq-eqb _ _ (c .before .if1 .taken)) (c .in-range .ensures)
+returns c = rw (eq-eqb _ _ (c .before .if1 .taken)) (c .is-fault .ensures)
 
 returns-2 : tie.Need-returns-2
 returns-2 c = rw (ne-eqb _ _ (c .before .if1 .left))
 
 pub fault-fits-spec : {M : Type 1} → statement M
-fault-fits-spec = tie.close (tie.spec in-range-requires returns returns-2)
+fault-fits-spec = tie.close (tie.spec is-fault-requires returns returns-2)
