@@ -107,6 +107,16 @@ static void unlock(struct machine *m, struct mutex *mutex)
         enqueue(m, &m->ready, mutex->owner);
 }
 
+static int owns_any(const struct machine *m, int t)
+{
+    int i;
+
+    for (i = 0; i < m->made_mutexes; i++)
+        if (m->mutexes[i].owner == t)
+            return 1;
+    return 0;
+}
+
 static void set_up(struct machine *m, int globals)
 {
     int i;
@@ -485,7 +495,9 @@ int64_t cma_run(const uint8_t *image, size_t len, uint64_t steps, struct engine_
             append(m, &m->ready, &m->conds[s[sp--]]);
             break;
 
-        ending: /* the thread ends with the value */
+        ending: /* the thread ends with the value, unless it owns a mutex */
+            if (owns_any(m, t))
+                FAULT(31);
             m->threads[t].ended = 1;
             m->threads[t].result = value;
             m->live--;

@@ -1,14 +1,20 @@
--- Laws of return: what it does by the two cells of a frame. Assumes nothing.
+-- Laws of return: what it does by the two cells of a frame; and of an instruction that ends its thread. Assumes nothing.
 use Prim.Native.Nat.{ℕ, zero, suc, _-_, _<_, _≤_}
-use mathlib.Core.Path.{_≡_, refl}
+use mathlib.Core.Path.{_≡_, refl, _∙_}
 use mathlib.Core.Bool.{Bool, true, false, cond, _&&_}
 use native.Mathlib.Omega.{arith}
 use lib.Dec.{leb, ltb}
 use lib.IntN.{ℤ, pos, negsuc}
 use borrow.Author.Tests.{le-leb, le-ltb, lt-leb, lt-ltb, ne-eqb}
-use Rattle.machine.specs.Execution.{Outcome, done, fault, frame, returned, returning, within}
-use Rattle.machine.specs.State.{State, cell, ends}
-use Rattle.cells.specs.Contract.{indexOf}
+use Rattle.machine.proofs.Equations.{carries, faults}
+use Rattle.machine.proofs.Lists.{cases}
+use Rattle.machine.specs.Execution.{Outcome, done, ending, exec, fault, frame, returned, returning, within}
+use Rattle.machine.specs.Instructions.{Instruction}
+use Rattle.machine.specs.Registers.{stopped}
+use Rattle.machine.specs.State.{State, cell, ends, withRegs}
+use Rattle.machine.specs.Step.{onward}
+use Rattle.machine.specs.Tables.{ownsAny}
+use Rattle.cells.specs.Contract.{after, indexOf}
 use Rattle.cells.specs.declared.index.Index.the-variants.{In, Out}
 use Rattle.cells.proofs.Tests.{in-below, in-value}
 
@@ -21,7 +27,7 @@ module _ (size n : ℕ) (s : State) where
   has-frame h = rw (lt-ltb (s .regs .fp) (s .regs .cells) h)
 
   -- the thread's first frame
-  pub frame-ended : (z : ℤ) → z ≡ negsuc 0 → frame size n s z ≡ done (ends size s (cell size s (s .regs .fp - 2)))
+  pub frame-ended : (z : ℤ) → z ≡ negsuc 0 → frame size n s z ≡ ending size s (cell size s (s .regs .fp - 2))
   unfolding frame
   frame-ended z e = rw e
 
@@ -45,3 +51,11 @@ module _ (size n : ℕ) (s : State) where
   pub frame-in : (z : ℤ) (a : ℕ) → indexOf z (s .regs .fp) ≡ In a → 2 ≤ a → frame size n s z ≡ within (cell size s (s .regs .fp)) n 26 λ pc. done (returned size n s a pc)
   unfolding frame
   frame-in z a e h = rw (in-value z (s .regs .fp) a e, le-leb 2 a h, lt-ltb a (s .regs .fp) (in-below z (s .regs .fp) a e))
+
+-- an instruction that ends its thread stops with 31, or leaves the state after the end
+pub after-ending : (size n : ℕ) (s : State) (i : Instruction) (v : ℤ) → exec size n (onward s) i ≡ ending size (onward s) v →
+    cond (ownsAny size (s .tables) (s .regs .thread)) (withRegs s (stopped (s .regs) 31)) (ends size (onward s) v) ≡ after size n s i
+after-ending size n s i v e =
+    cases (ownsAny size (s .tables) (s .regs .thread))
+    (λ b. rw b (faults size n s i 31 (e ∙ rw b)))
+    (λ b. rw b (carries size n s i (ends size (onward s) v) (e ∙ rw b)))

@@ -5,7 +5,7 @@ ghost use Rattle.machine.specs.Instructions.{return};
 ghost use Rattle.cells.specs.Contract.{Able};
 ghost use Rattle.tables.specs.Good.{Good};
 ghost use Rattle.endings.specs.Contract.{ChangesIn};
-use crate::ends::finish;
+use crate::ends::end_with;
 use cells::Index;
 use machine::Registers;
 
@@ -29,7 +29,7 @@ pub fn return_from(
     let caller = cells::peek(store, size, r.thread, fp - 1);
     if caller == -1 {
         let v = cells::peek(store, size, r.thread, fp - 2);
-        return finish(tables, values, size, r.advance(), v);
+        return end_with(tables, values, size, r, v);
     }
     let Index::In(old) = cells::checked(caller, fp) else {
         return r.stop(26);

@@ -75,6 +75,7 @@ module _ {size threads mutexes conditions run : ℕ} {tables : Tables} {book : B
                         };
                     runner = rw (saved-places tables t pc cells fp) (y .runner);
                     holders = rw (saved-owners tables t pc cells fp) (y .holders);
+                    owners-live = rw (saved-owners tables t pc cells fp, saved-places tables t pc cells fp) (y .owners-live);
                   };
             };
         booked = booked-same size tables book (b .booked) next (saved-places tables t pc cells fp) (saved-owners tables t pc cells fp) (saved-queue tables t pc cells fp);
@@ -118,7 +119,7 @@ module _ {size threads mutexes conditions run : ℕ} {tables : Tables} {book : B
               to-mutex = λ m h e. absurd (no-mutex m h e);
               to-condition = condition;
               to-end = λ u e. (end u e .0, λ away. end u e .1);
-              unawaited = λ e. absurd (omega arith);
+              to-ended = λ e. absurd (omega arith);
               has-frame = λ h. f;
             });
         booked =
@@ -151,7 +152,7 @@ module _ {size threads mutexes conditions run : ℕ} {tables : Tables} {book : B
               to-mutex = λ k h e. let same : m ≡ k = omega (arith, e) in (rw (← same) made, rw (← same) held);
               to-condition = λ c h e. absurd (omega (arith, e, limit));
               to-end = λ u e. absurd (omega (arith, e, limit));
-              unawaited = λ e. absurd (omega arith);
+              to-ended = λ e. absurd (omega arith);
               has-frame = λ h. f;
             });
         booked =
@@ -182,7 +183,7 @@ module _ {size threads mutexes conditions run : ℕ} {tables : Tables} {book : B
               to-mutex = λ m h e. absurd (omega (arith, e));
               to-condition = λ c h e. absurd (omega (arith, e));
               to-end = λ u e. absurd (omega (arith, e));
-              unawaited = λ e. absurd (omega (arith, e));
+              to-ended = λ e. absurd (omega (arith, e));
               has-frame = λ h. absurd (omega arith);
             });
         booked =
@@ -212,7 +213,7 @@ module _ {size threads mutexes conditions run : ℕ} {tables : Tables} {book : B
               to-mutex = λ m h e. absurd (omega (arith, e));
               to-condition = λ c h e. absurd (omega (arith, e));
               to-end = λ u e. absurd (omega (arith, e));
-              unawaited = λ e. absurd (omega (arith, e));
+              to-ended = λ e. absurd (omega (arith, e));
               has-frame = λ h. y .placed t below .kept (omega arith);
             });
         booked =
@@ -228,7 +229,7 @@ module _ {size threads mutexes conditions run : ℕ} {tables : Tables} {book : B
       let limit : m < mutexLimit size = omega (arith, y .counts .mutexes-fit) in
       let idle : queue tables (atMutex m) ≡ [] = no-queue tables (atMutex m) (λ t h e. y .placed t (in-line t h) .for-mutex m limit e .1 none) in
       record {
-        kempt = owner-set (b .kempt) m run made (λ h. r .0) (λ e. absurd (some e));
+        kempt = owner-set (b .kempt) m run made (λ h. (r .0, omega (arith, r .1))) (λ e. absurd (some e));
         booked = booked-taken size tables book (b .booked) m run limit (rw (b .kempt .sizes .owners) limit) none idle some;
       }
 
@@ -257,7 +258,7 @@ module _ {size threads mutexes conditions run : ℕ} {tables : Tables} {book : B
           let at : placeOf tables w ≡ atMutex m = first-at tables (atMutex m) w rest e in
           let real : w ≢ size = λ same. omega arith in
           let mine : w < threads = made-at w below (omega arith) in
-          let next = owner-set (b .kempt) m w made (λ h. mine) (λ same. absurd (real same)) in
+          let next = owner-set (b .kempt) m w made (λ h. (mine, omega (arith, at))) (λ same. absurd (real same)) in
           let idle : run ≢ w = λ same. let r = y .runner (λ none. omega (arith, same, none)) in let active-too : placeOf tables w ≡ active = rw same at (r .1) in omega arith in
           rw (first-waiter tables (atMutex m) w rest e)
           (record {
@@ -276,7 +277,7 @@ module _ {size threads mutexes conditions run : ℕ} {tables : Tables} {book : B
                   to-mutex = λ j h k. absurd (omega (arith, k));
                   to-condition = λ c h k. absurd (omega (arith, k));
                   to-end = λ u k. absurd (omega (arith, k));
-                  unawaited = λ k. absurd (omega (arith, k));
+                  to-ended = λ k. absurd (omega (arith, k));
                   has-frame = λ h. next .tidy .placed w below .kept (rw (owned-places tables m w, at) (omega arith));
                 });
             booked = booked-given size tables book (b .booked) m t (ownerOf tables m) w rest limit stored refl held e at (inside w below) (once w below) real;
@@ -305,15 +306,15 @@ module _ {size threads mutexes conditions run : ℕ} {tables : Tables} {book : B
               to-mutex = λ m h e. absurd (omega (arith, e));
               to-condition = λ c h e. absurd (omega (arith, e));
               to-end = λ u e. absurd (omega (arith, e));
-              unawaited = λ e. absurd (omega (arith, e));
+              to-ended = λ e. absurd (omega (arith, e));
               has-frame = λ h. f;
             });
         booked = booked-made size tables book (b .booked) threads ready (inside threads room) (λ m h e. omega (arith, e)) (λ m h e. omega (arith, none, e)) (omega arith) t;
       }
 
-  -- the running thread ends, where nobody waits for it
-  pub stops : run ≢ size → queue tables (atEnd size run) ≡ [] → Both size threads mutexes conditions size (sent tables run ended) (fed book (entry run event.ends))
-  stops some e =
+  -- the running thread ends, where nobody waits for it and it owns no mutex
+  pub stops : run ≢ size → queue tables (atEnd size run) ≡ [] → ((m : ℕ) → m < mutexLimit size → ownerOf tables m ≢ run) → Both size threads mutexes conditions size (sent tables run ended) (fed book (entry run event.ends))
+  stops some e free =
       let y = b .kempt .tidy in
       let r = y .runner some in
       let below : run < size = omega (arith, r .0, y .counts .threads-fit) in
@@ -333,7 +334,7 @@ module _ {size threads mutexes conditions run : ℕ} {tables : Tables} {book : B
               to-mutex = λ m h k. absurd (omega (arith, k));
               to-condition = λ c h k. absurd (omega (arith, k));
               to-end = λ u k. absurd (omega (arith, k));
-              unawaited = λ k s h. nobody-at (atEnd size run) e s h;
+              to-ended = λ k. (nobody-at (atEnd size run) e, free);
               has-frame = λ h. absurd (omega (arith, h));
             });
         booked = booked-ended size tables book (b .booked) run (inside run below) (λ m h k. omega (arith, r .1, k));

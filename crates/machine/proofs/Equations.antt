@@ -7,12 +7,12 @@ use lib.IntN.{ℤ, pos, negℤ, _+ℤ_, _-ℤ_, _*ℤ_}
 use lib.ListN.{set, replicate}
 use lib.Seq.{sets}
 use lib.Signed.{leZ, ltZ, quotZ, remZ}
-use Rattle.machine.specs.Execution.{Outcome, aCondition, aMutex, aThread, binary, compared, conditionMade, creating, division, done, eqZ, exec, fault, finalizing, fits, frameCell, fresh, joining, locking, mutexMade, needs, popped, pushed, replaced, returning, rooms, truth, unlocking, waiting, within}
+use Rattle.machine.specs.Execution.{Outcome, aCondition, aMutex, aThread, binary, compared, conditionMade, creating, division, done, ending, eqZ, exec, fault, finalizing, fits, frameCell, fresh, joining, locking, mutexMade, needs, popped, pushed, replaced, returning, rooms, truth, unlocking, waiting, within}
 use Rattle.machine.specs.Instructions.{Instruction}
 use Rattle.machine.specs.Instructions as instr
 use Rattle.machine.specs.Registers.{halted, stopped, withCells, withFp, withPc, withState}
 use Rattle.machine.specs.Size.{conditionLimit, mutexLimit, shared, stackAt}
-use Rattle.machine.specs.State.{State, below, blocked, cell, ends, minusOne, sharedCell, top, withRegs, withStore, withTables, written}
+use Rattle.machine.specs.State.{State, below, blocked, cell, minusOne, sharedCell, top, withRegs, withStore, withTables, written}
 use Rattle.machine.specs.Step.{entered, executed, onward}
 use Rattle.machine.specs.Tables.{atCondition, ready, wakeAll, wakeFirst}
 
@@ -149,7 +149,7 @@ module _ (size n : ℕ) (s : State) where
   unfolding exec
   yield-is = refl
 
-  pub exit-is : exec size n s instr.exit ≡ needs 1 (s .regs .cells) (done (ends size s (top size s)))
+  pub exit-is : exec size n s instr.exit ≡ needs 1 (s .regs .cells) (ending size s (top size s))
   unfolding exec
   exit-is = refl
 

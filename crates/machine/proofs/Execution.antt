@@ -12,14 +12,14 @@ use lib.Seq.{getD-set-same, length-sets}
 use borrow.Author.Tests.{eqb-true, eqb-false, leb-true, ltb-true}
 use Rattle.machine.specs.Book.{Book, eventOf, fed}
 use Rattle.machine.specs.Book as event
-use Rattle.machine.specs.Execution.{Outcome, eqZ, exec, fault, frame, fresh, owns}
+use Rattle.machine.specs.Execution.{Outcome, ending, eqZ, exec, fault, frame, fresh, owns}
 use Rattle.machine.specs.Instructions.{Instruction}
 use Rattle.machine.specs.Instructions as instr
 use Rattle.machine.specs.Plain.{Frame}
 use Rattle.machine.specs.Registers.{withPc, withCells, withFp, withFree, withMade}
 use Rattle.machine.specs.Size.{conditionLimit, mutexLimit, shared, stackAt, storeSize}
-use Rattle.machine.specs.State.{State, below, cell, minusOne, newCells, newFp, newStack, top, withRegs, withStore}
-use Rattle.machine.specs.Tables.{Tables, atCondition, atEnd, atMutex, ended, ownerOf, placeOf, ready, saved, sent}
+use Rattle.machine.specs.State.{State, below, cell, ends, minusOne, newCells, newFp, newStack, top, withRegs, withStore}
+use Rattle.machine.specs.Tables.{Tables, atCondition, atEnd, atMutex, ended, ownerOf, ownsAny, placeOf, ready, saved, sent}
 use Rattle.machine.proofs.Booked.{entry}
 use Rattle.machine.proofs.Changes.{Both, gives, makes, saves, takes, wakes-all, wakes-first}
 use Rattle.machine.proofs.Every.{and-first, and-second}
@@ -241,9 +241,13 @@ module _ (size n : ℕ) (s : State) (book : Book) (y : Runs size s book) (short 
             };
       }
 
+  -- 31, or the thread's end
+  ends-ending : (P : State → Type 0) (v : ℤ) → (Landed size (ends size s v) (fed book (entry (s .regs .thread) event.ends)) → P (ends size s v)) → Ends P (ending size s v)
+  ends-ending P v f = ends-cond P (ownsAny size (s .tables) (s .regs .thread)) _ _ (λ e. refl) (λ e. f (ends-right size s book y e v))
+
   exec-exit : Done instr.exit
   unfolding exec eventOf
-  exec-exit = ends-needs _ 1 _ _ (λ h. ends-right size s book y (top size s))
+  exec-exit = ends-needs _ 1 _ _ (λ h. ends-ending _ (top size s) (λ l. l))
 
   -- return: a frame, or the thread's end
   returns : (v : ℤ) → v ≡ cell size s (s .regs .fp - 1) → Ends (Leaves instr.return) (frame size n s v)
@@ -266,7 +270,7 @@ module _ (size n : ℕ) (s : State) (book : Book) (y : Runs size s book) (short 
       (λ k. refl)
   returns (negsuc k) e =
       ends-cond _ (eqb k 0) _ _
-      (λ i. rw (← e, eqb-true k 0 i) (ends-right size s book y (cell size s (s .regs .fp - 2))))
+      (λ i. ends-ending _ (cell size s (s .regs .fp - 2)) (λ l. rw (← e, eqb-true k 0 i) l))
       (λ i. refl)
 
   exec-return : Done instr.return

@@ -115,4 +115,5 @@ module _ (size : ℕ) (s : State) (book : Book) (r : Right size s book) where
         counted = r .steady .both .booked .counted;
         in-order = r .steady .both .booked .ordered;
         unawaited = unawaited;
+        owner-lives = λ m h e. rw (r .steady .both .booked .alive (ownerOf (s .tables) m)) (lt-ltb ended _ (r .steady .both .kempt .tidy .owners-live m h e));
       }

@@ -1,4 +1,4 @@
--- The five errors that look right show on these cards: computed. Assumes nothing.
+-- The five errors that look right, and the case of change request Two, show on these cards: computed. Assumes nothing.
 use mathlib.Core.Path.{refl}
 use Rattle.card.specs.Code.{firstBad, wordsOf}
 use Rattle.card.specs.Image.{codeOf, readCode, readOf}
@@ -11,13 +11,13 @@ use Rattle.machine.specs.Mistakes.{Excluded}
 use Rattle.machine.specs.Lists.{count, every, keep, some, toEnd, upTo}
 use Rattle.machine.specs.State.{finished, left, next, start}
 use Rattle.machine.specs.Step.{carried, run}
-use Rattle.machine.specs.Tables.{allReady, anyLive, first, owned, queue, saved, sent, sliceOf, tablesOf}
+use Rattle.machine.specs.Tables.{allReady, anyLive, first, owned, ownsAny, queue, saved, sent, sliceOf, tablesOf}
 use Rattle.machine.specs.WellFormed.{allBelow, formed, wellFormed}
 
 pub excluded : Excluded
 unfolding
     setUp runCall run carried exec needs rooms within fits frame owns eventOf instructionOf start next left finished tablesOf sliceOf queue anyLive
-    first sent owned saved allReady keep count toEnd upTo every some allBelow formed wellFormed readOf readCode codeOf firstBad wordsOf wordsBytes
+    first sent owned ownsAny saved allReady keep count toEnd upTo every some allBelow formed wellFormed readOf readCode codeOf firstBad wordsOf wordsBytes
 excluded =
     record {
       woken-owner = refl;
@@ -27,4 +27,9 @@ excluded =
       remembered-stuck = refl;
       reversed-ready = refl;
       untested-fault = refl;
+      measuring-fault = refl;
+      measuring-owner = refl;
+      called-returns = refl;
+      emptied-fault = refl;
+      overdrawn-fault = refl;
     }

@@ -30,7 +30,8 @@ module _ {size threads mutexes conditions run : ℕ} {tables : Tables} (k : Kemp
     pub to-mutex : (m : ℕ) → m < mutexLimit size → p ≡ atMutex m → (m < mutexes) × (ownerOf tables m ≢ size)
     pub to-condition : (c : ℕ) → c < conditionLimit size → p ≡ atCondition size c → c < conditions
     pub to-end : (u : ℕ) → p ≡ atEnd size u → (u < threads′) × (u ≢ t → placeOf tables u ≢ ended)
-    pub unawaited : p ≡ ended → (s : ℕ) → s < size → placeOf tables s ≢ atEnd size t
+    -- a thread may end where nobody waits for it and it owns nothing
+    pub to-ended : p ≡ ended → ((s : ℕ) → s < size → placeOf tables s ≢ atEnd size t) × ((m : ℕ) → m < mutexLimit size → ownerOf tables m ≢ t)
     pub has-frame : ready ≤ p → Frame (getD (tables .pcs) t 0) (getD (tables .depths) t 0) (getD (tables .frames) t 0)
 
   module _ (may : May) where
@@ -80,7 +81,7 @@ module _ {size threads mutexes conditions run : ℕ} {tables : Tables} (k : Kemp
                 same-or-not u t
                     (λ is stop.
                     let mine : p ≡ ended = sym here ∙ ap (placeOf (sent tables t p)) (sym is) ∙ stop in
-                    may .unawaited mine s below (sym stays ∙ e ∙ ap (atEnd size) is))
+                    may .to-ended mine .0 s below (sym stays ∙ e ∙ ap (atEnd size) is))
                     (λ far stop. was .1 (sym (there u far) ∙ stop)),
               );
           kept = λ h. frames s (old .kept (rw stays at h));
@@ -118,12 +119,18 @@ module _ {size threads mutexes conditions run : ℕ} {tables : Tables} (k : Kemp
                     λ m h e.
                     let was = k .tidy .holders m h (λ free. e (sent-owner tables t p m ∙ free)) in
                     (was .0, rw (sent-owner tables t p m) (omega (arith, was .1, may .more)));
+                owners-live =
+                    λ m h e.
+                    rw (sent-owner tables t p m)
+                    (same-or-not (ownerOf tables m) t
+                    (λ is. rw (is, here) (same-or-not p ended (λ stop. absurd (may .to-ended stop .1 m h is)) (λ goes. omega (arith, may .somewhere))))
+                    (λ away. rw (there (ownerOf tables m) away) (k .tidy .owners-live m h (λ free. e (sent-owner tables t p m ∙ free)))));
               };
         }
 
--- a mutex that was made gets a thread that was made as its owner; or none, where nobody waits for it
+-- a mutex that was made gets a live thread as its owner; or none, where nobody waits for it
 pub owner-set : {size threads mutexes conditions run : ℕ} {tables : Tables} → Kempt size threads mutexes conditions run tables →
-    (m o : ℕ) → m < mutexes → (o ≢ size → o < threads) → (o ≡ size → (t : ℕ) → t < size → placeOf tables t ≢ atMutex m) →
+    (m o : ℕ) → m < mutexes → (o ≢ size → (o < threads) × (ended < placeOf tables o)) → (o ≡ size → (t : ℕ) → t < size → placeOf tables t ≢ atMutex m) →
     Kempt size threads mutexes conditions run (owned tables m o)
 owner-set {size} {threads} {mutexes} {conditions} {run} {tables} k m o made real unwanted =
     let y = k .tidy in
@@ -164,11 +171,16 @@ owner-set {size} {threads} {mutexes} {conditions} {run} {tables} k m o made real
                 same-or-not j m
                 (λ i.
                 let who : ownerOf next j ≡ o = ap (ownerOf next) i ∙ here in
-                (rw i made, rw who (real (λ none. e (who ∙ none)))))
+                (rw i made, rw who (real (λ none. e (who ∙ none)) .0)))
                 (λ i.
                 let stays = owned-there tables m o j i in
                 let was = y .holders j hj (λ none. e (stays ∙ none)) in
                 (was .0, rw stays (was .1)));
+            owners-live =
+                λ j hj e.
+                same-or-not j m
+                (λ i. let who : ownerOf next j ≡ o = ap (ownerOf next) i ∙ here in rw (who, same) (real (λ none. e (who ∙ none)) .1))
+                (λ i. let stays = owned-there tables m o j i in rw (stays, same) (y .owners-live j hj (λ none. e (stays ∙ none))));
           };
     }
 
@@ -204,5 +216,6 @@ counts-grow k mutexes′ conditions′ more most more-c most-c =
                 };
             runner = y .runner;
             holders = λ m hm e. let was = y .holders m hm e in (omega (arith, was .0), was .1);
+            owners-live = y .owners-live;
           };
     }

@@ -12,11 +12,11 @@ use Rattle.machine.specs.Laws.{NotEmpty}
 use Rattle.machine.specs.Lists.{count, every, keep, some, toEnd, upTo}
 use Rattle.machine.specs.State.{finished, left, next, start}
 use Rattle.machine.specs.Step.{carried, run}
-use Rattle.machine.specs.Tables.{allReady, anyLive, first, owned, queue, saved, sent, sliceOf, tablesOf}
+use Rattle.machine.specs.Tables.{allReady, anyLive, first, owned, ownsAny, queue, saved, sent, sliceOf, tablesOf}
 use Rattle.machine.specs.WellFormed.{allBelow, formed, wellFormed}
 
 pub not-empty : NotEmpty
 unfolding
     played setUp runCall run carried exec needs rooms within fits frame owns eventOf instructionOf start next left finished tablesOf sliceOf queue anyLive
-    first sent owned saved allReady keep count toEnd upTo every some allBelow formed wellFormed readOf readCode codeOf firstBad wordsOf wordsBytes
+    first sent owned ownsAny saved allReady keep count toEnd upTo every some allBelow formed wellFormed readOf readCode codeOf firstBad wordsOf wordsBytes
 not-empty = record { accepted = refl; owner = refl; waiters = refl }

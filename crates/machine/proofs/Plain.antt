@@ -180,10 +180,18 @@ module _ (size : ℕ) (r : Registers) (tables : Tables) where
       search (true-and, le-leb) depth 7
 
   -- the owners
+  plain-owner : (m : ℕ) → ownerFits size r tables m ≡ true → ownerOf tables m ≢ size → (m < r .mutexes) × (ownerOf tables m < r .threads) × (ended < placeOf tables (ownerOf tables m))
+  plain-owner m e held =
+      let v = and-true (ltb m (r .mutexes)) _ (or-true (eqb (ownerOf tables m) size) _ e (ne-eqb _ _ held)) in
+      let w = and-true (ltb (ownerOf tables m) (r .threads)) _ (v .1) in
+      (ltb-true _ _ (v .0), ltb-true _ _ (w .0), ltb-true _ _ (w .1))
+
   test-owner : Tidy size (r .threads) (r .mutexes) (r .conditions) (r .thread) tables → (m : ℕ) → m < mutexLimit size → ownerFits size r tables m ≡ true
   test-owner y m h =
       true-or (eqb (ownerOf tables m) size) _
-      (λ a. let w = y .holders m h (eqb-false _ _ a) in true-and _ _ (lt-ltb _ _ (w .0)) (lt-ltb _ _ (w .1)))
+      (λ a. let held = eqb-false _ _ a in
+      let w = y .holders m h held in
+      true-and _ _ (lt-ltb _ _ (w .0)) (true-and _ _ (lt-ltb _ _ (w .1)) (lt-ltb ended _ (y .owners-live m h held))))
 
 -- the test of a well-formed state gives the plain reading
 pub plain : (size : ℕ) (r : Registers) (tables : Tables) → formed size r tables ≡ true → Formed size r tables
@@ -208,9 +216,8 @@ plain size r tables e =
                 let i : r .thread < r .threads =
                 cases (ltb (r .thread) (r .threads)) (ltb-true _ _) (λ q. absurd (n (eqb-true _ _ (or-true (ltb (r .thread) (r .threads)) _ (l .1) q)))) in
                 (i, eqb-true _ _ (rw (lt-leb (r .threads) (r .thread) i, eq-eqb (r .thread) (r .thread) refl) at (every-true size _ (c .0) (r .thread) (omega arith))));
-            holders = λ m i n.
-                let w = and-true (ltb m (r .mutexes)) _ (or-true (eqb (ownerOf tables m) size) _ (every-true (mutexLimit size) _ (d .0) m i) (ne-eqb _ _ n)) in
-                (ltb-true _ _ (w .0), ltb-true _ _ (w .1));
+            holders = λ m i n. let w = plain-owner size r tables m (every-true (mutexLimit size) _ (d .0) m i) n in (w .0, w .1);
+            owners-live = λ m i n. plain-owner size r tables m (every-true (mutexLimit size) _ (d .0) m i) n .2;
           };
       frame = plain-frame _ _ _ (k .0);
       free-least = leb-true _ _ (and-first _ _ (l .0));

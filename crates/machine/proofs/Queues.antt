@@ -10,7 +10,7 @@ use lib.ListN.{length, getD, length-set}
 use lib.Seq.{getD-set-same, getD-set-other}
 use borrow.Author.Tests.{eq-eqb, ne-eqb, eqb-true, eqb-false}
 use Rattle.machine.specs.Lists.{count}
-use Rattle.machine.specs.Tables.{Tables, first, firstOf, isAt, owned, ownerOf, placeOf, queue, saved, sent}
+use Rattle.machine.specs.Tables.{Tables, allReady, first, firstOf, isAt, owned, ownerOf, placeOf, queue, ready, saved, sent}
 use Rattle.machine.specs.declared.numbers.First.the-variants.{Waiter, Nobody}
 use Rattle.machine.proofs.Lists.{arrives, count-keep, count-to-end, departs, first-occurs, first-passes, keep-none, keep-same, keep-to-end, length-to-end, none-passes, same-or-not}
 
@@ -212,3 +212,9 @@ first-waiter tables q t rest e = ap firstOf e
 pub no-queue : (tables : Tables) (q : ℕ) → ((t : ℕ) → 0 < count t (tables .line) → placeOf tables t ≢ q) → queue tables q ≡ []
 unfolding queue
 no-queue tables q h = keep-none (isAt tables q) (tables .line) (λ t below. ne-eqb _ _ (h t below))
+
+-- waking threads changes no owner
+pub woken-owner : (l : List ℕ) (tables : Tables) (m : ℕ) → ownerOf (allReady l tables) m ≡ ownerOf tables m
+unfolding allReady
+woken-owner [] tables m = refl
+woken-owner (t ∷ rest) tables m = woken-owner rest (sent tables t ready) m ∙ sent-owner tables t ready m

@@ -14,12 +14,12 @@ use Rattle.machine.specs.Runner.{lineOf, runnerIn, runnerLine}
 use Rattle.machine.specs.Sessions.{Hold, agree, all, bytesOf, endedOf}
 use Rattle.machine.specs.State.{finished, left, next, start}
 use Rattle.machine.specs.Step.{carried, run}
-use Rattle.machine.specs.Tables.{allReady, anyLive, first, owned, queue, saved, sent, sliceOf, tablesOf}
+use Rattle.machine.specs.Tables.{allReady, anyLive, first, owned, ownsAny, queue, saved, sent, sliceOf, tablesOf}
 use Rattle.machine.specs.WellFormed.{allBelow, formed, wellFormed}
 
 pub hold : Hold
 unfolding
     all agree bytesOf endedOf runnerLine runnerIn lineOf line decimal places setUp runCall run carried exec needs rooms within fits frame owns eventOf
-    instructionOf start next left finished tablesOf sliceOf queue anyLive first sent owned saved allReady keep count toEnd upTo every some allBelow formed
+    instructionOf start next left finished tablesOf sliceOf queue anyLive first sent owned ownsAny saved allReady keep count toEnd upTo every some allBelow formed
     wellFormed readOf readCode codeOf firstBad wordsOf wordsBytes
 hold = refl

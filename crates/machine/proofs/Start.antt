@@ -66,6 +66,7 @@ module _ (size : ℕ) (some : 1 ≤ size) where
                   };
               runner = λ h. (lit≤ tt, refl);
               holders = λ m hm e. absurd (e (unowned m hm));
+              owners-live = λ m hm e. absurd (e (unowned m hm));
             };
       }
 

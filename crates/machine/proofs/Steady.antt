@@ -7,18 +7,18 @@ use mathlib.Core.Logic.{_≢_}
 use native.Mathlib.Omega.{arith}
 use lib.IntN.{ℤ}
 use lib.ListN.{length, getD, length-set}
-use borrow.Author.Tests.{ltb-true, ltb-false}
+use borrow.Author.Tests.{eqb-false, ltb-true, ltb-false}
 use Rattle.machine.specs.Book.{Book, fed}
 use Rattle.machine.specs.Book as event
 use Rattle.machine.specs.Plain.{Fault, Frame, Mode}
 use Rattle.machine.specs.Registers.{halted, nobody, running, stuck, withState}
 use Rattle.machine.specs.Size.{conditionLimit, mutexLimit, shared, storeSize, valuesSize}
 use Rattle.machine.specs.State.{State, blocked, ends, finished, left, next, nextOf, withRegs, withTables}
-use Rattle.machine.specs.Tables.{Tables, anyLive, atCondition, atEnd, atMutex, ended, first, lives, ownerOf, placeOf, queue, ready, saved, sent, unlocked}
+use Rattle.machine.specs.Tables.{Tables, anyLive, atCondition, atEnd, atMutex, ended, first, lives, ownerOf, ownsAny, placeOf, queue, ready, saved, sent, unlocked}
 use Rattle.machine.proofs.Booked.{entry}
 use Rattle.machine.proofs.Changes.{Both, gives, head-below, leaves, nobody-at, saves, starts, stops, waits, wakes-all}
 use Rattle.machine.proofs.Every.{some-false, some-true}
-use Rattle.machine.proofs.Queues.{first-at, first-nobody, first-waiter, saved-depth, saved-frame, saved-owners, saved-pc, saved-places, sent-owner}
+use Rattle.machine.proofs.Queues.{first-at, first-nobody, first-waiter, saved-depth, saved-frame, saved-owners, saved-pc, saved-places, sent-owner, woken-owner}
 
 -- the tables and the book, the registers' ranges, and the sizes of what is lent
 pub record Steady (size : ℕ) (s : State) (book : Book) : Type 0 where
@@ -230,15 +230,17 @@ module _ (size : ℕ) (s : State) (book : Book) (y : Runs size s book) where
       (left-marked (atMutex m))
       (left-none (atMutex m))
 
-  -- the thread ends
-  pub ends-right : (v : ℤ) → Landed size (ends size s v) (fed book (entry (s .regs .thread) event.ends))
-  unfolding finished
-  ends-right v =
+  -- the thread ends, where it owns no mutex
+  pub ends-right : ownsAny size (s .tables) (s .regs .thread) ≡ false → (v : ℤ) → Landed size (ends size s v) (fed book (entry (s .regs .thread) event.ends))
+  unfolding finished ownsAny
+  ends-right free v =
       let b = y .steady .both in
       let woken = wakes-all b (atEnd size (s .regs .thread)) (omega arith) (λ m h e. omega (arith, e)) in
       next-right size (finished size s v) (fed book (entry (s .regs .thread) event.ends))
       (record {
-        both = stops (woken .0) (y .some) (woken .1);
+        both =
+            stops (woken .0) (y .some) (woken .1)
+            (λ m h. rw (woken-owner (queue (s .tables) (atEnd size (s .regs .thread))) (s .tables) m) (eqb-false _ _ (some-false (mutexLimit size) _ free m h)));
         frame = y .steady .frame;
         free-least = y .steady .free-least;
         free-most = y .steady .free-most;

@@ -1,6 +1,6 @@
 -- Demand 3, as one statement over every accepted card, every lent memory and every list of calls. Its proof is in proofs/Demand.antt.
 use Prim.Native.Nat.{ℕ, zero, suc, _+_, _*_, _<_, _≤_}
-use mathlib.Core.Bool.{cond}
+use mathlib.Core.Bool.{true, cond}
 use mathlib.Core.List.{List, [], _∷_, _++_}
 use mathlib.Core.Logic.{_⊎_, _≢_}
 use mathlib.Core.Path.{_≡_}
@@ -44,6 +44,8 @@ pub record Fair (size : ℕ) (s : State) (book : Book) : Type 0 where
   pub in-order : (m : ℕ) → m < mutexLimit size → namesLeft book m ≡ holderOf size (s .tables) m ++ queue (s .tables) (atMutex m)
   -- .. and with no owner nobody waits: where a name is left, the first is the owner's
   pub unawaited : (m : ℕ) → m < mutexLimit size → ownerOf (s .tables) m ≡ size → queue (s .tables) (atMutex m) ≡ []
+  -- "an owner is a live thread" (change request Two)
+  pub owner-lives : (m : ℕ) → m < mutexLimit size → ownerOf (s .tables) m ≢ size → book .living (ownerOf (s .tables) m) ≡ true
 
 -- a call of the list, with its image
 pub data Call : Type 0 where

@@ -12,7 +12,7 @@ use Rattle.machine.specs.Instructions as instr
 use Rattle.machine.specs.Registers.{halted, withCells, withFp, withFree, withMade, withPc, withState}
 use Rattle.machine.specs.Size.{conditionLimit, mutexLimit, shared, stackAt}
 use Rattle.machine.specs.State.{State, below, blocked, cell, ends, left, minusOne, newCells, newFp, newStack, next, sharedCell, top, withRegs, withStore, withTables, written}
-use Rattle.machine.specs.Tables.{atCondition, atEnd, atMutex, ended, owned, ownerOf, placeOf, ready, saved, sent, unlocked, wakeAll, wakeFirst}
+use Rattle.machine.specs.Tables.{atCondition, atEnd, atMutex, ended, owned, ownerOf, ownsAny, placeOf, ready, saved, sent, unlocked, wakeAll, wakeFirst}
 
 -- an instruction is carried out, or it is a fault with its number
 pub data Outcome : Type 0 where
@@ -47,6 +47,10 @@ truth b = cond b (pos 1) (pos 0)
 
 abbrev pub eqZ : ℤ → ℤ → Bool
 eqZ a b = leZ a b && leZ b a
+
+-- 31: "exit, and a return that ends the thread, are faulted when the thread owns any mutex" (change request Two); else "the thread ends with" a value
+abbrev pub ending : ℕ → State → ℤ → Outcome
+ending size s v = cond (ownsAny size (s .tables) (s .regs .thread)) (fault 31) (done (ends size s v))
 
 module _ (size n : ℕ) (s : State) where
   abbrev pub depth : ℕ
@@ -93,7 +97,7 @@ module _ (size n : ℕ) (s : State) where
   frame (pos fp) =
       cond (leb 2 fp && ltb fp (s .regs .fp)) (within (cell size s (s .regs .fp)) n 26 λ pc. done (returned fp pc))
       (fault 26)
-  frame (negsuc k) = cond (eqb k 0) (done (ends size s (cell size s (s .regs .fp - 2)))) (fault 26)
+  frame (negsuc k) = cond (eqb k 0) (ending size s (cell size s (s .regs .fp - 2))) (fault 26)
 
   abbrev pub returning : Outcome
   returning = cond (ltb (s .regs .fp) depth) (frame (cell size s (s .regs .fp - 1))) (fault 26)
@@ -216,7 +220,7 @@ module _ (size n : ℕ) (s : State) where
   exec instr.new = needs 1 depth (fresh (top size s))
   exec instr.create = needs 2 depth creating
   exec instr.yield = done (blocked size s ready)
-  exec instr.exit = needs 1 depth (done (ends size s (top size s)))
+  exec instr.exit = needs 1 depth (ending size s (top size s))
   exec instr.join = needs 1 depth (aThread (top size s) joining)
   exec instr.finalize = needs 1 depth (aThread (top size s) finalizing)
   exec instr.newmutex =

@@ -1,4 +1,5 @@
--- "Errors that look right": for each of the five a small card on which it would show, and what the definitions give instead.
+-- "Errors that look right": for each of the five a small card on which it would show, and what the definitions give instead; and the case that change
+-- request Two tells.
 -- proofs/Mistakes.antt computes them.
 use Prim.Native.Nat.{ℕ}
 use mathlib.Core.List.{List, [], _∷_}
@@ -9,7 +10,7 @@ use Rattle.machine.specs.Runner.{lent}
 use Rattle.machine.specs.Sessions.{card, word}
 use Rattle.machine.specs.Size.{full}
 use Rattle.machine.specs.Tables.{Tables, atMutex, ownerOf, queue, ready}
-use Rattle.machine.specs.declared.answers.Answer.the-variants.{Faulted, Stuck}
+use Rattle.machine.specs.declared.answers.Answer.the-variants.{Faulted, Halted, Stuck}
 
 -- the instructions of these cards, by the paper's opcodes
 abbrev halt : ℕ
@@ -18,11 +19,26 @@ halt = word 0 (pos 0)
 abbrev loadc : ℕ → ℕ
 loadc k = word 1 (pos k)
 
+abbrev pop : ℕ
+pop = word 7 (pos 0)
+
+abbrev mark : ℕ
+mark = word 22 (pos 0)
+
+abbrev call : ℕ
+call = word 23 (pos 0)
+
+abbrev return : ℕ
+return = word 24 (pos 0)
+
 abbrev create : ℕ
 create = word 26 (pos 0)
 
 abbrev yield : ℕ
 yield = word 27 (pos 0)
+
+abbrev exit : ℕ
+exit = word 28 (pos 0)
 
 abbrev newmutex : ℕ
 newmutex = word 31 (pos 0)
@@ -83,6 +99,23 @@ reversed =
 abbrev pub untested : List ℕ
 untested = loadc 3 ∷ loadc 0 ∷ create ∷ []
 
+-- "A measuring thread left by exit in the middle of its locked part" (change request Two): thread 1, from 7 on, while thread 0 waits for its turn
+abbrev pub measuring : List ℕ
+measuring =
+    newmutex ∷ loadc 7 ∷ loadc 0 ∷ create ∷ yield ∷ loadc 0 ∷ lock
+    ∷ loadc 0 ∷ lock ∷ loadc 5 ∷ exit ∷ []
+
+-- .. which does not concern a return to a caller: the function from 6 on is called, and returns, in a locked part
+abbrev pub called : List ℕ
+called = newmutex ∷ lock ∷ mark ∷ loadc 6 ∷ call ∷ halt ∷ return ∷ []
+
+-- "31, after 21 and 26": an exit with no cell, and a return with FP over SP, in a locked part
+abbrev pub emptied : List ℕ
+emptied = newmutex ∷ lock ∷ pop ∷ pop ∷ pop ∷ exit ∷ []
+
+abbrev pub overdrawn : List ℕ
+overdrawn = newmutex ∷ lock ∷ pop ∷ return ∷ []
+
 pub record Excluded : Type 0 where
   -- thread 0 owns the mutex, and thread 1 waits for it
   pub woken-owner : ownerOf (tablesAfter woken 17) 0 ≡ 0
@@ -94,3 +127,9 @@ pub record Excluded : Type 0 where
   -- both are ready, thread 1 first
   pub reversed-ready : queue (tablesAfter reversed 21) ready ≡ 1 ∷ 2 ∷ []
   pub untested-fault : runIn 1 untested 3 .answer ≡ Faulted 25 2
+  -- the exit is faulted, and thread 1 still owns the mutex
+  pub measuring-fault : runIn full measuring 9 .answer ≡ Faulted 31 10
+  pub measuring-owner : ownerOf (tablesAfter measuring 9) 0 ≡ 1
+  pub called-returns : runIn full called 7 .answer ≡ Halted
+  pub emptied-fault : runIn full emptied 6 .answer ≡ Faulted 21 5
+  pub overdrawn-fault : runIn full overdrawn 4 .answer ≡ Faulted 26 3

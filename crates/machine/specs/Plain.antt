@@ -55,6 +55,8 @@ pub record Tidy (size threads mutexes conditions run : ℕ) (tables : Tables) : 
   pub runner : run ≢ size → (run < threads) × (placeOf tables run ≡ active)
   -- "owners are threads made, and what isn't made yet has neither owner .."
   pub holders : (m : ℕ) → m < mutexLimit size → ownerOf tables m ≢ size → (m < mutexes) × (ownerOf tables m < threads)
+  -- "an owner is a live thread"
+  pub owners-live : (m : ℕ) → m < mutexLimit size → ownerOf tables m ≢ size → ended < placeOf tables (ownerOf tables m)
 
 -- a thread that lives
 pub record Lives (size : ℕ) (tables : Tables) : Type 0 where

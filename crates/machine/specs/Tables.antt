@@ -14,6 +14,7 @@ use mathlib.Core.List.{List, [], _∷_, _++_}
 use lib.Dec.{eqb, ltb}
 use lib.ListN.{getD, set, take, drop}
 use Rattle.machine.specs.Lists.{keep, some, toEnd}
+use Rattle.machine.specs.Size.{mutexLimit}
 use Rattle.machine.specs.declared.numbers.First.{First}
 use Rattle.machine.specs.declared.numbers.First.the-variants.{Waiter, Nobody}
 
@@ -89,6 +90,10 @@ lives tables t = ltb ended (placeOf tables t)
 -- "if no thread lives"
 unfoldable pub anyLive : ℕ → Tables → Bool
 anyLive size tables = some size (lives tables)
+
+-- "when the thread owns any mutex" (change request Two)
+unfoldable pub ownsAny : ℕ → Tables → ℕ → Bool
+ownsAny size tables t = some (mutexLimit size) (λ m. eqb (ownerOf tables m) t)
 
 -- "the queue gives the first waiter, or nobody"
 abbrev pub firstOf : List ℕ → First

@@ -8,7 +8,7 @@ use lib.ListN.{length, getD}
 use Rattle.machine.specs.Lists.{count, every, some}
 use Rattle.machine.specs.Registers.{faulted, halted, isFault, running, stuck}
 use Rattle.machine.specs.Size.{conditionLimit, mutexLimit, shared, tablesSize, valuesSize}
-use Rattle.machine.specs.Tables.{Tables, active, anyLive, ended, isAt, ownerOf, placeOf, ready, tablesOf, unmade}
+use Rattle.machine.specs.Tables.{Tables, active, anyLive, ended, isAt, lives, ownerOf, placeOf, ready, tablesOf, unmade}
 use Rattle.machine.specs.declared.registers.Registers.{Registers}
 
 -- low ≤ x ≤ high
@@ -61,10 +61,11 @@ threadFits size r tables t =
     || (savedFits tables t
     && (isAt tables ready t || (leb 4 (placeOf tables t) && waitFits size r tables (placeOf tables t))))))
 
--- "owners are threads made, and what isn't made yet has neither owner .."
+-- "owners are threads made, and what isn't made yet has neither owner .."; "an owner is a live thread" (change request Two)
 abbrev pub ownerFits : ℕ → Registers → Tables → ℕ → Bool
 ownerFits size r tables m =
-    eqb (ownerOf tables m) size || (ltb m (r .mutexes) && ltb (ownerOf tables m) (r .threads))
+    eqb (ownerOf tables m) size
+    || (ltb m (r .mutexes) && (ltb (ownerOf tables m) (r .threads) && lives tables (ownerOf tables m)))
 
 -- "the fault number is one of the table from 20 up when faulted, else 0"
 abbrev pub faultFits : Registers → Bool

@@ -8,11 +8,11 @@ use native.Mathlib.Omega.{arith}
 use lib.Dec.{eqb}
 use lib.ListN.{length, getD, set, take, drop, drop-of-length-le, length-append, length-drop, length-set, take-append-drop, List·getD-append}
 use lib.Seq.{drop-append-le, drop-at, drop-cons, drop-set-lt, getD-drop, length-take-le, take-append-le, take-set-lt}
-use borrow.Author.Tests.{eq-eqb, ne-eqb, lt-ltb, le-ltb}
+use borrow.Author.Tests.{eq-eqb, ne-eqb}
 use Rattle.machine.proofs.Lists.{count-cons, count-nil, keep-in, keep-nil, keep-out, length-to-end, less-or-not, one-if-is, one-if-other, one-if-same}
 use Rattle.machine.proofs.Queues.{first-in-line, first-nobody, first-waiter, sent-count}
 use Rattle.machine.specs.Lists.{count, keep, toEnd}
-use Rattle.machine.specs.Tables.{first, firstOf, isAt, lives, placeOf, queue, sent, tablesOf}
+use Rattle.machine.specs.Tables.{first, firstOf, isAt, queue, sent, tablesOf}
 use Rattle.machine.specs.declared.numbers.Thread.{Thread}
 use Rattle.machine.specs.declared.numbers.First.{First}
 use Rattle.machine.specs.declared.numbers.First.the-variants.{Waiter, Nobody}
@@ -214,10 +214,3 @@ module _ (size : ℕ) (l : List ℕ) (g : Good size l) where
           let same : s ≡ t .0 = let z : Waiter t ≡ Waiter (record { 0 = s }) = sym e ∙ first-waiter (tablesOf size l) place s rest k in ap who (sym z) in
           let there = first-in-line (tablesOf size l) place s rest k in
           less-or-not (t .0) size (λ j. j) (λ j. absurd (omega (arith, there, rw (← same) at (g .line .no-other (t .0) j))))
-
--- whether a thread lives, by its place in the slice
-pub live-at : (size : ℕ) (l : List ℕ) (t : ℕ) → t < size → 1 < getD l t 0 → lives (tablesOf size l) t ≡ true
-live-at size l t h k = lt-ltb 1 (placeOf (tablesOf size l) t) (rw (read-place size l t h) k)
-
-pub dead-at : (size : ℕ) (l : List ℕ) (t : ℕ) → t < size → getD l t 0 ≤ 1 → lives (tablesOf size l) t ≡ false
-dead-at size l t h k = le-ltb 1 (placeOf (tablesOf size l) t) (rw (read-place size l t h) k)

@@ -6,7 +6,7 @@ ghost use lib.Dec.{eqb};
 ghost use lib.ListN.{drop, getD, length};
 ghost use Rattle.machine.specs.Lists.{count};
 ghost use Rattle.machine.specs.Registers.{nobody};
-ghost use Rattle.machine.specs.Tables.{anyLive, ended, first, owned, ownerOf, placeOf, saved, sent, tablesOf, wakeAll};
+ghost use Rattle.machine.specs.Tables.{anyLive, ended, first, lives, owned, ownerOf, ownsAny, placeOf, saved, sent, tablesOf, wakeAll};
 ghost use Rattle.tables.specs.Good.{Dequeued, Good, Left, endMoved};
 use machine::First;
 use machine::Mutex;
@@ -170,16 +170,38 @@ pub fn dequeue(tables: &mut [usize], size: usize, from: usize, to: usize) -> Fir
     First::Waiter(t)
 }
 
+pub fn lives(tables: &[usize], size: usize, t: Thread) -> bool
+    requires { ⌜ Good size (now tables) ⌝ }
+    requires { ⌜ t .0 < size ⌝ }
+    ensures { λ r. ⌜ r ≡ lives (tablesOf size (now (tables .entry))) (t .0) ⌝ }
+{
+    1 < place(tables, size, t)
+}
+
 pub fn any_live(tables: &[usize], size: usize) -> bool
     requires { ⌜ Good size (now tables) ⌝ }
     ensures { λ r. ⌜ r ≡ anyLive size (tablesOf size (now (tables .entry))) ⌝ }
 {
     let mut t = 0;
     while t < size {
-        if 1 < tables[t] {
+        if lives(tables, size, Thread(t)) {
             return true;
         }
         t += 1;
+    }
+    false
+}
+
+pub fn owns_any(tables: &[usize], size: usize, t: Thread) -> bool
+    requires { ⌜ Good size (now tables) ⌝ }
+    ensures { λ r. ⌜ r ≡ ownsAny size (tablesOf size (now (tables .entry))) (t .0) ⌝ }
+{
+    let mut m = 0;
+    while m < 2 * size {
+        if owner(tables, size, Mutex(m)) == t.0 {
+            return true;
+        }
+        m += 1;
     }
     false
 }

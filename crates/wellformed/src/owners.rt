@@ -1,24 +1,29 @@
-// Each mutex's owner: a thread that was made, or none; none of a mutex that was not made.
+// Each mutex's owner: a live thread, or none; none of a mutex that was not made.
 ghost use mathlib.Core.Path.{_≡_};
 ghost use Prim.Native.Nat.{_*_, _<_};
 ghost use Rattle.machine.specs.Lists.{every};
 ghost use Rattle.machine.specs.Tables.{tablesOf};
 ghost use Rattle.machine.specs.WellFormed.{ownerFits};
+ghost use Rattle.cells.specs.Contract.{Made};
 ghost use Rattle.tables.specs.Good.{Good};
 use machine::Mutex;
 use machine::Registers;
+use machine::Thread;
 
 fn owner_fits(r: Registers, tables: &[usize], size: usize, m: usize) -> bool
     requires { ⌜ Good size (now tables) ⌝ }
+    requires { ⌜ Made size r ⌝ }
     requires { ⌜ m < 2 * size ⌝ }
     ensures { λ b. ⌜ b ≡ ownerFits size r (tablesOf size (now (tables .entry))) m ⌝ }
 {
     let owner = tables::owner(tables, size, Mutex(m));
-    owner == size || m < r.mutexes && owner < r.threads
+    owner == size
+        || m < r.mutexes && (owner < r.threads && tables::lives(tables, size, Thread(owner)))
 }
 
 pub fn owners_fit(r: Registers, tables: &[usize], size: usize) -> bool
     requires { ⌜ Good size (now tables) ⌝ }
+    requires { ⌜ Made size r ⌝ }
     ensures { λ b. ⌜ b ≡ every (2 * size) (ownerFits size r (tablesOf size (now (tables .entry)))) ⌝ }
 {
     let mut m = 0;

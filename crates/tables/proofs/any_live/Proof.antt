@@ -1,13 +1,12 @@
 -- `tables::any_live` meets its contract. Assumes nothing.
 use Prim.Native.Nat.{ℕ, _-_, _<_}
-use mathlib.Core.Path.{_≡_, sym}
+use mathlib.Core.Path.{_≡_, sym, _∙_}
 use mathlib.Core.Bool.{false}
 use native.Mathlib.Omega.{arith}
+use borrow.Author.Count.{below-more, below-none}
 use borrow.Author.Needs.{needs}
 use Rattle.machine.specs.Tables.{anyLive, lives, tablesOf}
 use Rattle.machine.proofs.Every.{false-some, true-some}
-use Rattle.machine.proofs.Lists.{same-or-not}
-use Rattle.tables.proofs.Line.{dead-at, live-at}
 use Rattle.tables.proofs.any_live.Statement.{statement}
 use Rattle.tables.proofs.any_live.Tie as tie
 
@@ -18,17 +17,14 @@ abbrev μ-loop : tie.MeasureT-loop
 μ-loop tables size t₀ t = size - t
 
 loop-holds : tie.Need-loop-holds Inv-loop μ-loop
-loop-holds c = λ k h. absurd (omega arith)
+loop-holds c = below-none _
 
-mul-if1 : tie.Need-mul-if1 Inv-loop μ-loop
-mul-if1 c = search needs
-
-shared-slice-read-if1 : tie.Need-shared-slice-read-if1 Inv-loop μ-loop
-shared-slice-read-if1 c = search needs
+lives-requires : tie.Need-lives-requires Inv-loop μ-loop
+lives-requires c κs = search needs
 
 returns : tie.Need-returns Inv-loop μ-loop
 unfolding anyLive
-returns c = sym (true-some _ _ _ (c .before .before .loop-test .taken) (live-at _ _ _ (c .before .before .loop-test .taken) (c .if1 .taken)))
+returns c = sym (true-some _ _ _ (c .before .before .loop-test .taken) (sym (c .before .lives .ensures) ∙ c .if1 .taken))
 
 add-t : tie.Need-add-t Inv-loop μ-loop
 add-t c = search needs
@@ -37,8 +33,7 @@ loop-less : tie.Need-loop-less Inv-loop μ-loop
 loop-less c = search needs
 
 loop-again : tie.Need-loop-again Inv-loop μ-loop
-loop-again c k h =
-    same-or-not k (c .before .before .before .loop .t) (λ e. rw e (dead-at _ _ _ (c .before .before .loop-test .taken) (c .if1 .left))) (λ e. c .before .before .before .loop .inv k (omega arith))
+loop-again c = below-more _ _ (c .before .before .before .loop .inv) (sym (c .before .lives .ensures) ∙ c .if1 .left)
 
 returns-2 : tie.Need-returns-2 Inv-loop μ-loop
 unfolding anyLive
@@ -51,8 +46,7 @@ any-live-spec =
     Inv-loop
     μ-loop
     loop-holds
-    mul-if1
-    shared-slice-read-if1
+    lives-requires
     returns
     add-t
     loop-less

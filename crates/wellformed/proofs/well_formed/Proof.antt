@@ -46,7 +46,7 @@ threads-fit-requires : tie.Need-threads-fit-requires
 threads-fit-requires c κs = (tidy c, counted c)
 
 owners-fit-requires : tie.Need-owners-fit-requires
-owners-fit-requires c κs = tidy (c .before .before)
+owners-fit-requires c κs = (tidy (c .before .before), counted (c .before .before))
 
 fault-fits-requires : tie.Need-fault-fits-requires
 fault-fits-requires c κs = search needs

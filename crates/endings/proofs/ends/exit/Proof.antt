@@ -5,8 +5,9 @@ use borrow.Author.Needs.{sfits-of, needs}
 use denote.Ref.{now}
 use mir.Syntax.{w32}
 use mir.Facts.{toZ-ofZ}
-use Rattle.machine.proofs.Equations.{carries, exit-is, faults}
+use Rattle.machine.proofs.Equations.{exit-is, faults}
 use Rattle.cells.proofs.Tests.{needs-less, needs-met}
+use Rattle.endings.proofs.Frames.{after-ending}
 use Rattle.endings.proofs.ends.exit.Statement.{statement}
 use Rattle.endings.proofs.ends.exit.Tie as tie
 
@@ -19,11 +20,8 @@ returns c n = rw (c .stop .ensures) (faults _ n _ _ 21 (exit-is _ n _ ∙ needs-
 peek-requires : tie.Need-peek-requires
 peek-requires c κs = search needs
 
-advance-requires : tie.Need-advance-requires
-advance-requires c κs = search needs
-
-finish-requires : tie.Need-finish-requires
-finish-requires c κs = rw (c .advance .ensures) (c .before .before .before .before .before .before .pre .1 .0, (c .before .before .before .before .before .before .pre .1 .1, c .before .before .before .before .before .before .pre .0 .thread))
+end-with-requires : tie.Need-end-with-requires
+end-with-requires c κs = search needs
 
 same-length : tie.Need-same-length
 same-length c = search needs
@@ -33,8 +31,8 @@ same-length-2 c = search needs
 
 returns-2 : tie.Need-returns-2
 returns-2 c n =
-    rw (c .before .before .before .before .advance .ensures, toZ-ofZ (sfits-of {w = w32} {z = c .before .before .before .before .before .before .before .peek .result} (c .before .before .before .before .before .before .before .peek .ok)), c .before .before .before .before .before .before .before .peek .ensures) at (c .before .before .before .finish .ensures (now (c .before .before .before .before .before .before .before .before .before .before .args .store)))
-    ∙ carries _ n _ _ _ (exit-is _ n _ ∙ needs-met 1 _ _ (omega arith))
+    rw (toZ-ofZ (sfits-of {w = w32} {z = c .before .before .before .before .before .before .peek .result} (c .before .before .before .before .before .before .peek .ok)), c .before .before .before .before .before .before .peek .ensures) at (c .before .before .before .end-with .ensures (now (c .before .before .before .before .before .before .before .before .before .args .store)))
+    ∙ after-ending _ n _ _ _ (exit-is _ n _ ∙ needs-met 1 _ _ (omega arith))
 
 pub exit-spec : {M : Type 1} → statement M
 exit-spec =
@@ -43,8 +41,7 @@ exit-spec =
     stop-requires
     returns
     peek-requires
-    advance-requires
-    finish-requires
+    end-with-requires
     same-length
     same-length-2
     returns-2)

@@ -12,7 +12,7 @@ use Rattle.machine.specs.Size.{stackAt}
 use Rattle.machine.proofs.Equations.{carries, faults, return-is}
 use Rattle.cells.specs.Contract.{indexOf}
 use Rattle.cells.proofs.Tests.{of-cell, within-in, within-out}
-use Rattle.endings.proofs.Frames.{frame-ended, frame-in, frame-low, frame-out, has-frame, no-frame}
+use Rattle.endings.proofs.Frames.{after-ending, frame-ended, frame-in, frame-low, frame-out, has-frame, no-frame}
 use Rattle.endings.proofs.returns.return_from.Statement.{statement}
 use Rattle.endings.proofs.returns.return_from.Tie as tie
 
@@ -41,11 +41,8 @@ sub-peek-2 c = search needs
 peek-requires-2 : tie.Need-peek-requires-2
 peek-requires-2 c κs = search needs
 
-advance-requires : tie.Need-advance-requires
-advance-requires c κs = search needs
-
-finish-requires : tie.Need-finish-requires
-finish-requires c κs = rw (c .advance .ensures) (c .before .before .before .before .before .before .before .before .before .pre .1 .0, (c .before .before .before .before .before .before .before .before .before .pre .1 .1, c .before .before .before .before .before .before .before .before .before .pre .0 .thread))
+end-with-requires : tie.Need-end-with-requires
+end-with-requires c κs = search needs
 
 same-length : tie.Need-same-length
 same-length c = search needs
@@ -55,9 +52,9 @@ same-length-2 c = search needs
 
 returns-2 : tie.Need-returns-2
 returns-2 c =
-    let first = sym (c .before .before .before .before .before .before .before .before .before .peek .ensures) ∙ sym (toZ-ofZ (sfits-of {w = w32} {z = c .before .before .before .before .before .before .before .before .before .peek .result} (c .before .before .before .before .before .before .before .before .before .peek .ok))) ∙ ap (toZ w32) (c .before .before .before .before .before .before .before .before .if2 .taken) in
-    rw (c .before .before .before .before .advance .ensures, toZ-ofZ (sfits-of {w = w32} {z = c .before .before .before .before .before .before .before .peek2 .result} (c .before .before .before .before .before .before .before .peek2 .ok)), c .before .before .before .before .before .before .before .peek2 .ensures) at (c .before .before .before .finish .ensures (now (c .before .before .before .before .before .before .before .before .before .before .before .before .before .args .store)))
-    ∙ carries _ _ _ _ _ (return-is _ _ _ ∙ has-frame _ _ _ (c .before .before .before .before .before .before .before .before .before .before .if1 .left) ∙ frame-ended _ _ _ _ first)
+    let first = sym (c .before .before .before .before .before .before .before .before .peek .ensures) ∙ sym (toZ-ofZ (sfits-of {w = w32} {z = c .before .before .before .before .before .before .before .before .peek .result} (c .before .before .before .before .before .before .before .before .peek .ok))) ∙ ap (toZ w32) (c .before .before .before .before .before .before .before .if2 .taken) in
+    rw (toZ-ofZ (sfits-of {w = w32} {z = c .before .before .before .before .before .before .peek2 .result} (c .before .before .before .before .before .before .peek2 .ok)), c .before .before .before .before .before .before .peek2 .ensures) at (c .before .before .before .end-with .ensures (now (c .before .before .before .before .before .before .before .before .before .before .before .before .args .store)))
+    ∙ after-ending _ _ _ _ _ (return-is _ _ _ ∙ has-frame _ _ _ (c .before .before .before .before .before .before .before .before .before .if1 .left) ∙ frame-ended _ _ _ _ first)
 
 checked-requires : tie.Need-checked-requires
 checked-requires c κs = search needs
@@ -107,8 +104,8 @@ returns-5 c =
     (faults _ _ _ _ 26
     (return-is _ _ _ ∙ has-frame _ _ _ (c .before .before .before .before .before .before .before .before .before .before .before .before .if1 .left) ∙ frame-in _ _ _ _ _ (caller (c .before .before .before .before .before .before .before .before .before) ∙ c .before .before .before .before .before .before .before .old .given .1) (c .before .before .before .before .before .if3 .left) ∙ within-out _ _ _ _ (after (c .before .before .before) ∙ c .before .enum-told2 .given .1)))
 
-advance-requires-2 : tie.Need-advance-requires-2
-advance-requires-2 c κs = search needs
+advance-requires : tie.Need-advance-requires
+advance-requires c κs = search needs
 
 sub-with-cells : tie.Need-sub-with-cells
 sub-with-cells c = search needs
@@ -124,7 +121,7 @@ with-pc-requires c κs = search needs
 
 returns-6 : tie.Need-returns-6
 returns-6 c =
-    rw (c .with-pc .ensures, c .before .with-fp .ensures, c .before .before .with-cells .ensures, c .before .before .before .advance2 .ensures)
+    rw (c .with-pc .ensures, c .before .with-fp .ensures, c .before .before .with-cells .ensures, c .before .before .before .advance .ensures)
     (carries _ _ _ _ _
     (return-is _ _ _ ∙ has-frame _ _ _ (c .before .before .before .before .before .before .before .before .before .before .before .before .before .before .before .before .if1 .left) ∙ frame-in _ _ _ _ _ (caller (c .before .before .before .before .before .before .before .before .before .before .before .before .before) ∙ c .before .before .before .before .before .before .before .before .before .before .before .old .given .1) (c .before .before .before .before .before .before .before .before .before .if3 .left) ∙ within-in _ _ _ _ _ (after (c .before .before .before .before .before .before .before) ∙ c .before .before .before .before .before .pc .given .1)))
 
@@ -138,8 +135,7 @@ return-from-spec =
     peek-requires
     sub-peek-2
     peek-requires-2
-    advance-requires
-    finish-requires
+    end-with-requires
     same-length
     same-length-2
     returns-2
@@ -156,7 +152,7 @@ return-from-spec =
     enum-told-2
     stop-requires-4
     returns-5
-    advance-requires-2
+    advance-requires
     sub-with-cells
     with-cells-requires
     with-fp-requires

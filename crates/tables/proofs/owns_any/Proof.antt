@@ -1,0 +1,60 @@
+-- `tables::owns_any` meets its contract. Assumes nothing.
+use Prim.Native.Nat.{ℕ, _*_, _-_, _<_}
+use mathlib.Core.Path.{_≡_, sym}
+use mathlib.Core.Bool.{false}
+use native.Mathlib.Omega.{arith}
+use borrow.Author.Count.{below-more, below-none}
+use borrow.Author.Needs.{needs}
+use borrow.Author.Tests.{eq-eqb, ne-eqb}
+use lib.Dec.{eqb}
+use Rattle.machine.specs.Tables.{ownerOf, ownsAny, tablesOf}
+use Rattle.machine.proofs.Every.{false-some, true-some}
+use Rattle.tables.proofs.owns_any.Statement.{statement}
+use Rattle.tables.proofs.owns_any.Tie as tie
+
+abbrev Inv-loop : tie.InvT-loop
+Inv-loop tables size t m₀ m = (k : ℕ) → k < m → eqb (ownerOf (tablesOf size tables) k) (t .0) ≡ false
+
+abbrev μ-loop : tie.MeasureT-loop
+μ-loop tables size t m₀ m = 2 * size - m
+
+loop-holds : tie.Need-loop-holds Inv-loop μ-loop
+loop-holds c = below-none _
+
+mul-loop : tie.Need-mul-loop Inv-loop μ-loop
+mul-loop c = search needs
+
+owner-requires : tie.Need-owner-requires Inv-loop μ-loop
+owner-requires c κs = search needs
+
+returns : tie.Need-returns Inv-loop μ-loop
+unfolding ownsAny
+returns c = sym (true-some _ _ _ (c .before .before .before .loop-test .taken) (rw (← (c .before .before .owner .ensures)) (eq-eqb _ _ (c .if1 .taken))))
+
+add-m : tie.Need-add-m Inv-loop μ-loop
+add-m c = search needs
+
+loop-less : tie.Need-loop-less Inv-loop μ-loop
+loop-less c = search needs
+
+loop-again : tie.Need-loop-again Inv-loop μ-loop
+loop-again c = below-more _ _ (c .before .before .before .before .loop .inv) (rw (← (c .before .before .owner .ensures)) (ne-eqb _ _ (c .if1 .left)))
+
+returns-2 : tie.Need-returns-2 Inv-loop μ-loop
+unfolding ownsAny
+returns-2 c = sym (false-some _ _ (λ k h. c .before .loop .inv k (omega arith)))
+
+pub owns-any-spec : {M : Type 1} → statement M
+owns-any-spec =
+    tie.close
+    (tie.spec
+    Inv-loop
+    μ-loop
+    loop-holds
+    mul-loop
+    owner-requires
+    returns
+    add-m
+    loop-less
+    loop-again
+    returns-2)
