@@ -7,8 +7,8 @@ use std::fmt::Write as _;
 
 /// A card counts with its first steps only, so that the few endless ones don't drown the rest.
 const STEPS: u64 = 10_000;
-/// The faults are numbered 20 to 30.
-const FAULTS: std::ops::RangeInclusive<usize> = 20..=30;
+/// The faults are numbered 20 to 31.
+const FAULTS: std::ops::RangeInclusive<usize> = 20..=31;
 /// The columns: structured cards, cards at limits and edges, and the rest.
 const COLUMNS: [&str; 3] = ["structured", "limits", "soup+damaged"];
 
@@ -28,7 +28,7 @@ struct Coverage {
     cards: Counts,
     carried_out: Vec<Counts>,
     /// By opcode, then by fault; a fault 20 has no instruction and is counted apart.
-    faults: Vec<[Counts; 31]>,
+    faults: Vec<[Counts; *FAULTS.end() + 1]>,
     past_end: Counts,
     /// Halted, running, stuck, faulted.
     ends: [Counts; 4],
@@ -41,7 +41,7 @@ struct Coverage {
 pub fn coverage(seed: u64, count: u64) -> String {
     let mut c = Coverage {
         carried_out: vec![[0; COLUMNS.len()]; Op::ALL.len()],
-        faults: vec![[[0; COLUMNS.len()]; 31]; Op::ALL.len()],
+        faults: vec![[[0; COLUMNS.len()]; *FAULTS.end() + 1]; Op::ALL.len()],
         ..Coverage::default()
     };
     for index in 0..count {

@@ -125,8 +125,9 @@ pub struct Condition {
     remembered: usize,
 }
 
-/// The paper's "Errors that look right". A machine makes none of them unless it is told to; only
-/// the showing that the comparison can fail tells it to.
+/// The paper's "Errors that look right", 1 to 5, and those that request Two invites, 6 to 9. A
+/// machine makes none of them unless it is told to; only the showing that the comparison can fail
+/// tells it to.
 #[derive(Clone, Copy, PartialEq, Eq, Debug)]
 pub enum Mistake {
     /// 1. A condition's waiter is woken straight past its lock.
@@ -139,15 +140,27 @@ pub enum Mistake {
     BroadcastReversed,
     /// 5. Create gives -1 before it tests the entry.
     CreateRoomFirst,
+    /// 6. A thread that owns a mutex ends and leaves it owned, as before request Two.
+    EndsOwning,
+    /// 7. When a thread ends, only mutex 0 is looked at.
+    OnlyMutexZero,
+    /// 8. Fault 31 is given after those who wait for the thread were sent to the ready tail.
+    JoinersWokenFirst,
+    /// 9. A return to a caller gives fault 31 too.
+    CallerReturnFaulted,
 }
 
 impl Mistake {
-    pub const ALL: [Mistake; 5] = [
+    pub const ALL: [Mistake; 9] = [
         Mistake::WokenPastLock,
         Mistake::UnlockFrees,
         Mistake::SignalRemembered,
         Mistake::BroadcastReversed,
         Mistake::CreateRoomFirst,
+        Mistake::EndsOwning,
+        Mistake::OnlyMutexZero,
+        Mistake::JoinersWokenFirst,
+        Mistake::CallerReturnFaulted,
     ];
 }
 
@@ -336,7 +349,7 @@ impl Machine {
                 let old_fp = me.stack[fp - 1];
                 if old_fp == -1 {
                     let result = me.stack[fp - 2];
-                    self.end(t, result);
+                    self.end(t, result)?;
                 } else {
                     if old_fp < 2 || old_fp > fp as i32 - 1 {
                         return Err(26);
@@ -344,6 +357,9 @@ impl Machine {
                     let old_pc = me.stack[fp];
                     if old_pc < 0 || old_pc as usize >= n {
                         return Err(26);
+                    }
+                    if self.mistake == Some(Mistake::CallerReturnFaulted) {
+                        owns_none(t, &self.mutexes)?;
                     }
                     // SP = FP - 2, so FP - 1 cells are left.
                     me.cells = fp - 1;
@@ -413,7 +429,7 @@ impl Machine {
             Op::Exit => {
                 me.has(1)?;
                 let result = me.top();
-                self.end(t, result);
+                self.end(t, result)?;
             }
             Op::Join => {
                 me.has(1)?;
@@ -516,13 +532,33 @@ impl Machine {
     }
 
     /// Ending: the result is kept, all who wait for the thread go to the ready tail in their
-    /// order, then Next.
-    fn end(&mut self, t: usize, result: i32) {
+    /// order, then Next. But a thread that owns a mutex doesn't end: that is fault 31.
+    fn end(&mut self, t: usize, result: i32) -> Result<(), u8> {
+        if self.mistake == Some(Mistake::JoinersWokenFirst) {
+            self.wake_joiners(t);
+        }
+        owns_none(t, self.looked_at())?;
         self.threads[t].result = Some(result);
+        self.wake_joiners(t);
+        self.next();
+        Ok(())
+    }
+
+    /// The mutexes that are looked at when a thread ends: all, but for two of the mistakes.
+    fn looked_at(&self) -> &[Mutex] {
+        let count = match self.mistake {
+            Some(Mistake::EndsOwning) => 0,
+            Some(Mistake::OnlyMutexZero) => self.mutexes.len().min(1),
+            _ => self.mutexes.len(),
+        };
+        &self.mutexes[..count]
+    }
+
+    /// All who wait for the thread's end go to the ready tail in their order.
+    fn wake_joiners(&mut self, t: usize) {
         while let Some(joiner) = self.threads[t].joiners.pop_front() {
             self.ready.push_back(joiner);
         }
-        self.next();
     }
 
     /// The mutex goes to its first waiter, who becomes ready, or to nobody.
@@ -584,6 +620,15 @@ fn number(value: i32, made: usize) -> Result<usize, u8> {
         Err(27)
     } else {
         Ok(value as usize)
+    }
+}
+
+/// Fault 31 if thread `t` owns any of the mutexes.
+fn owns_none(t: usize, mutexes: &[Mutex]) -> Result<(), u8> {
+    if mutexes.iter().any(|mutex| mutex.owner == Some(t)) {
+        Err(31)
+    } else {
+        Ok(())
     }
 }
 

@@ -1,10 +1,11 @@
 //! The generator: the same cards from the same seed, good ones where they should be good, all
-//! instructions and faults reached, and each of the five errors found.
+//! instructions and faults reached, and each of the machine's errors found.
 
 use second::cards::{card, Kind};
 use second::machine::{read, Machine, Op, State};
 use second::selftest::selftest;
 use second::text::{read_frame, runner_line, write_frame};
+use std::collections::BTreeMap;
 
 const SEED: u64 = 1;
 const COUNT: u64 = 3000;
@@ -25,7 +26,7 @@ fn the_same_again_and_good_unless_damaged() {
 #[test]
 fn all_instructions_and_faults_are_reached() {
     let mut carried_out = [false; Op::ALL.len()];
-    let mut faults = [false; 31];
+    let mut faults = [false; 32];
     let mut refusals = [false; 6];
     for index in 0..COUNT {
         let image = card(SEED, index).1;
@@ -54,6 +55,75 @@ fn all_instructions_and_faults_are_reached() {
     );
     assert!(faults[20..].iter().all(|&reached| reached), "{faults:?}");
     assert!(refusals[1..].iter().all(|&reached| reached), "{refusals:?}");
+}
+
+/// Makes a step. If it is an exit or return that ends the thread, or that a thread with a mutex
+/// makes: what it comes to.
+fn ending(machine: &mut Machine) -> Option<String> {
+    let t = machine.last;
+    let next = machine.code.get(machine.threads[t].pc).map(|next| next.op);
+    let owned = machine.mutexes.iter().position(|m| m.owner == Some(t));
+    let joined = !machine.threads[t].joiners.is_empty();
+    machine.step();
+    let name = next
+        .filter(|op| [Op::Exit, Op::Return].contains(op))?
+        .name();
+    let ended = machine.threads[t].result.is_some();
+    match (owned, machine.fault) {
+        (Some(m), 31) => {
+            let which = if m == 0 { "mutex 0" } else { "a later one" };
+            let waited_for = if joined {
+                "waited for"
+            } else {
+                "not waited for"
+            };
+            Some(format!("{name}: 31, owns {which}, {waited_for}"))
+        }
+        (Some(_), 0) => Some(format!("{name}: to its caller, owns one")),
+        (Some(_), fault) => Some(format!("{name}: {fault}, owns one")),
+        (None, _) if ended && machine.mutexes.iter().any(|m| m.owner.is_some()) => {
+            Some(format!("{name}: ends, another thread owns one"))
+        }
+        (None, _) if ended => Some(format!("{name}: ends, nobody owns one")),
+        _ => None,
+    }
+}
+
+#[test]
+fn threads_end_with_and_without_mutexes() {
+    let mut counts = BTreeMap::new();
+    for index in 0..COUNT {
+        if let Ok(card) = read(&card(SEED, index).1) {
+            let mut machine = Machine::new(&card);
+            for _ in 0..2000 {
+                if let Some(what) = ending(&mut machine) {
+                    *counts.entry(what).or_insert(0) += 1;
+                }
+                if machine.state != State::Running {
+                    break;
+                }
+            }
+        }
+    }
+    let all = [
+        "exit: 21, owns one",
+        "exit: 31, owns a later one, not waited for",
+        "exit: 31, owns a later one, waited for",
+        "exit: 31, owns mutex 0, not waited for",
+        "exit: 31, owns mutex 0, waited for",
+        "exit: ends, another thread owns one",
+        "exit: ends, nobody owns one",
+        "return: 26, owns one",
+        "return: 31, owns a later one, not waited for",
+        "return: 31, owns a later one, waited for",
+        "return: 31, owns mutex 0, not waited for",
+        "return: 31, owns mutex 0, waited for",
+        "return: ends, another thread owns one",
+        "return: ends, nobody owns one",
+        "return: to its caller, owns one",
+    ];
+    assert!(counts.keys().eq(all.iter()), "{counts:#?}");
+    assert!(counts.values().all(|&count| count >= 3), "{counts:#?}");
 }
 
 #[test]

@@ -172,14 +172,14 @@ fn the_sessions_cards() {
 #[test]
 fn errors_have_their_numbers() {
     for (words, most) in [
-        (&["lines"][..], 5),
-        (&["trace", "9"], 5),
+        (&["lines"][..], 9),
+        (&["trace", "9"], 9),
         (&["listings"], 4),
         (&["imports"], 7),
         (&["retexts"], 0),
         (&["hex"], 0),
     ] {
-        for e in 0..=9 {
+        for e in 0..=10 {
             let number = e.to_string();
             let mut words = words.to_vec();
             words.extend(["--error", &number]);

@@ -344,6 +344,108 @@ fn fault_30() {
 }
 
 #[test]
+fn fault_31() {
+    // Of 64 mutexes the first, one in the middle or the last is owned, or was.
+    let made = "newmutex, pop, ".repeat(64);
+    for (end, result) in [("exit", -1), ("return", 0)] {
+        for m in [0, 31, 63] {
+            let owning = format!("{made} loadc {m}, lock");
+            let freed = format!("{owning}, loadc {m}, unlock");
+            let again = format!("{freed}, loadc {m}, lock");
+            for (text, expected) in [
+                (format!("{owning}, {end}"), "fault 31 0 130 130".into()),
+                (format!("{freed}, {end}"), format!("halted 133 {result}")),
+                (format!("{again}, {end}"), "fault 31 0 134 134".into()),
+            ] {
+                assert_eq!(line(&text), expected, "{end}, mutex {m}");
+            }
+        }
+        // Both ends are owned and one is given back.
+        for m in [0, 63] {
+            let text = format!("{made} loadc 0, lock, loadc 63, lock, loadc {m}, unlock, {end}");
+            assert_eq!(line(&text), "fault 31 0 134 134", "{end}, mutex {m}");
+        }
+    }
+    // Halt doesn't end the thread.
+    check(&[("newmutex, lock, halt", "halted 3 -")]);
+}
+
+#[test]
+fn fault_31_comes_after_21_and_26() {
+    check(&[
+        ("newmutex, lock, 3*pop, exit", "fault 21 0 5 5"),
+        ("newmutex, lock, 2*pop, exit", "fault 31 0 4 4"),
+        // FP over SP, and each wrong number in cell FP - 1.
+        ("newmutex, lock, 3*pop, return", "fault 26 0 5 5"),
+        ("newmutex, lock, pop, return", "fault 26 0 3 3"),
+        (
+            "newmutex, lock, loadc -2, storer -1, return",
+            "fault 26 0 4 4",
+        ),
+        (
+            "newmutex, lock, loadc 0, storer -1, return",
+            "fault 26 0 4 4",
+        ),
+        (
+            "newmutex, lock, loadc 1, storer -1, return",
+            "fault 26 0 4 4",
+        ),
+        (
+            "newmutex, lock, loadc 2, storer -1, return",
+            "fault 26 0 4 4",
+        ),
+        // At -1 cell FP isn't looked at.
+        ("newmutex, lock, return", "fault 31 0 2 2"),
+        (
+            "newmutex, lock, loadc 77, storer 0, return",
+            "fault 31 0 4 4",
+        ),
+        (
+            "newmutex, lock, loadc -2, storer 0, return",
+            "fault 31 0 4 4",
+        ),
+    ]);
+}
+
+#[test]
+fn fault_31_and_calls() {
+    // At 6 the caller goes on, at 7 the function starts, with FP 5; the mutex is owned all along.
+    let called = "newmutex, lock, loadc 5, mark, loadc 7, call";
+    let rows = [
+        // A return to the caller isn't concerned.
+        (format!("{called}, halt, return"), "halted 8 -"),
+        (format!("{called}, exit, return"), "fault 31 0 6 7"),
+        (format!("{called}, return, return"), "fault 31 0 6 7"),
+        (
+            format!("{called}, jump 8, return, loadc 0, unlock, exit"),
+            "halted 11 5",
+        ),
+        // The function ends the thread: by exit, or by return at -1.
+        (format!("{called}, halt, exit"), "fault 31 0 7 6"),
+        (
+            format!("{called}, halt, loadc -1, storer -1, return"),
+            "fault 31 0 9 8",
+        ),
+        // With a frame that is wrong it is 26, also where the way to the caller is.
+        (
+            format!("{called}, halt, loadc 5, storer -1, return"),
+            "fault 26 0 9 8",
+        ),
+        (
+            format!("{called}, halt, loadc @0, storer 0, return"),
+            "fault 26 0 9 8",
+        ),
+        (
+            format!("{called}, halt, loadc @-1, storer 0, return, halt"),
+            "halted 10 -",
+        ),
+    ];
+    for (text, expected) in rows {
+        assert_eq!(line(&text), expected, "{text}");
+    }
+}
+
+#[test]
 fn a_fault_changes_nothing_but_the_state() {
     let mut m = machine("newmutex, dup, lock, loadc 5, loadc 0, lock, jump 0");
     m.run(3);

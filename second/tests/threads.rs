@@ -1,4 +1,4 @@
-//! The rules about who runs, waits and owns, and the five errors that look right.
+//! The rules about who runs, waits and owns, and the machine's errors.
 
 mod common;
 
@@ -105,15 +105,143 @@ fn join_wakes_in_order() {
     check(&[("loadc 0, join", "stuck 2")]);
 }
 
+/// Thread 1 is to end with mutex 0 its own; thread 0 wants the mutex after that.
+const DEAD_OWNER: &str =
+    "newmutex, loadc 8, loadc 0, create, pop, yield, lock, halt, loadc 0, lock, return";
+
 #[test]
-fn ending_keeps_a_mutex_owned() {
-    let text = "newmutex, loadc 8, loadc 0, create, pop, yield, lock, halt, loadc 0, lock, return";
-    assert_eq!(line(text), "stuck 10");
-    let mut m = machine(text);
+fn an_owner_does_not_end() {
+    assert_eq!(line(DEAD_OWNER), "fault 31 1 10 8");
+    let mut m = machine(DEAD_OWNER);
     m.run(20);
+    assert_eq!(m.mutexes[0].owner, Some(1));
+    assert_eq!(m.threads[1].result, None);
+    assert_eq!((m.running, m.threads[1].pc), (Some(1), 10));
+    // Thread 0 never comes to its lock.
+    assert_eq!(m.ready, [0]);
+    // The old rule: thread 1 ends, the mutex stays its own, and the box says stuck.
+    let card = read(&image(DEAD_OWNER)).unwrap();
+    let mut m = Machine::with_mistake(&card, Some(Mistake::EndsOwning));
+    assert_eq!(m.run(20), 10);
+    assert_eq!(m.state, State::Stuck);
     assert_eq!(m.mutexes[0].owner, Some(1));
     assert_eq!(m.mutexes[0].waiters, [0]);
     assert_eq!(m.threads[1].result, Some(0));
+}
+
+/// Thread 1 owns mutex 0, and `end` is its next instruction after 21 steps; threads 0 and 2 wait
+/// for its end, thread 3 for the mutex.
+fn awaited_owner(end: &str) -> String {
+    format!(
+        "newmutex, pop, loadc 14, loadc 7, create, loadc 19, loadc 1, create, \
+         loadc 22, loadc 0, create, loadc 1, join, halt, \
+         loadc 0, lock, yield, loadc 9, {end}, \
+         loadc 1, join, halt, \
+         loadc 0, lock, halt"
+    )
+}
+
+#[test]
+fn fault_31_changes_nothing_but_the_state() {
+    for end in ["exit", "return"] {
+        let text = awaited_owner(end);
+        assert_eq!(line(&text), "fault 31 1 18 21", "{end}");
+        let mut before = machine(&text);
+        assert_eq!(before.run(21), 21);
+        let mut m = before.clone();
+        assert!(!m.step());
+        assert_eq!((m.state, m.fault), (State::Faulted, 31));
+        assert_eq!((m.running, m.threads[1].pc), (Some(1), 18));
+        // Who waited still waits, the result isn't kept, the mutex is still owned.
+        assert_eq!(m.threads[1].joiners, [0, 2]);
+        assert!(m.ready.is_empty());
+        assert_eq!(m.threads[1].result, None);
+        assert_eq!(m.mutexes[0].owner, Some(1));
+        assert_eq!(m.mutexes[0].waiters, [3]);
+        let line = state_line(&m);
+        assert!(
+            line.ends_with(" r:[] m0:[3] e1:[0,2] o0=1 s0=(13,7,2) s2=(21,4,2) s3=(24,3,2)"),
+            "{line}"
+        );
+        // Nothing else is another than before, and nothing follows.
+        (before.state, before.fault) = (State::Faulted, 31);
+        assert_eq!(format!("{m:?}"), format!("{before:?}"));
+        assert_eq!(m.run(9), 0);
+        assert_eq!(format!("{m:?}"), format!("{before:?}"));
+    }
+}
+
+#[test]
+fn who_waits_for_a_mutex_does_not_own_it_yet() {
+    check(&[
+        // Its own mutex: it never comes to its exit.
+        ("newmutex, dup, lock, lock, exit", "stuck 4"),
+        // Thread 1 is handed the mutex while it waits and ends with it, or gives it back first.
+        // Thread 0 ends in between: it owns nothing any more.
+        (
+            "newmutex, lock, loadc 9, loadc 5, create, yield, loadc 0, unlock, exit, \
+             loadc 0, lock, exit",
+            "fault 31 1 11 11",
+        ),
+        (
+            "newmutex, lock, loadc 9, loadc 5, create, yield, loadc 0, unlock, return, \
+             loadc 0, lock, return",
+            "fault 31 1 11 11",
+        ),
+        (
+            "newmutex, lock, loadc 9, loadc 5, create, yield, loadc 0, unlock, exit, \
+             loadc 0, lock, loadc 0, unlock, exit",
+            "halted 14 1",
+        ),
+        // Thread 1 gives back what it was handed, and still owns mutex 1.
+        (
+            "newmutex, lock, loadc 9, loadc 5, create, yield, loadc 0, unlock, exit, \
+             newmutex, lock, loadc 0, lock, loadc 0, unlock, exit",
+            "fault 31 1 15 15",
+        ),
+    ]);
+}
+
+#[test]
+fn a_wait_gives_the_mutex_up() {
+    // Thread 1 waits, thread 0 signals and ends. Then thread 1 ends without its lock, or with it.
+    let made = "newmutex, newcond, loadc 9, loadc 5, create, yield, loadc 0, signal, exit, \
+                loadc 0, lock, loadc 0, loadc 0, wait";
+    let rows = [
+        (format!("{made}, exit"), "halted 15 1"),
+        (format!("{made}, return"), "halted 15 1"),
+        (format!("{made}, lock, exit"), "fault 31 1 15 15"),
+        (format!("{made}, lock, return"), "fault 31 1 15 15"),
+        (
+            format!("{made}, lock, loadc 0, unlock, exit"),
+            "halted 18 1",
+        ),
+    ];
+    for (text, expected) in rows {
+        assert_eq!(line(&text), expected, "{text}");
+    }
+    // Another mutex than the one given up is still owned.
+    let text = "newmutex, newcond, loadc 9, loadc 5, create, yield, loadc 0, signal, exit, \
+                newmutex, lock, loadc 0, lock, loadc 0, loadc 0, wait, exit";
+    assert_eq!(line(text), "fault 31 1 16 16");
+}
+
+#[test]
+fn what_others_own_does_not_matter() {
+    // Thread 0 owns mutexes 0 and 1 and waits for thread 1, which owns none and ends.
+    for end in ["exit", "return"] {
+        let text =
+            format!("newmutex, lock, newmutex, lock, loadc 9, loadc 5, create, join, halt, {end}");
+        assert_eq!(line(&text), "halted 10 -", "{end}");
+    }
+    // Thread 0 ends while thread 1 owns mutex 0: a mutex's number is no thread's.
+    let mut m = machine(
+        "newmutex, pop, loadc 7, loadc 5, create, yield, exit, loadc 0, lock, yield, jump 9",
+    );
+    assert_eq!(m.run(10), 10);
+    assert_eq!(m.threads[0].result, Some(1));
+    assert_eq!(m.mutexes[0].owner, Some(1));
+    assert_eq!(m.running, Some(1));
 }
 
 #[test]
@@ -141,16 +269,20 @@ fn unlock_hands_over_to_the_first_waiter() {
 /// Mutex 0, condition 0, cell 0 the vessel. The saver waits; the filler signals while it holds the
 /// mutex, yields, and fills in something else before it unlocks.
 const SAVER: &str = "newmutex, newcond, loadc 13, loadc 0, create, join, finalize, exit, 5*halt, \
-    loadc 27, loadc 0, create, pop, loadc 0, lock, loadc 0, loadc 0, wait, lock, \
-    loadc 0, load, exit, halt, \
+    loadc 28, loadc 0, create, pop, loadc 0, lock, loadc 0, loadc 0, wait, lock, \
+    loadc 0, load, loadc 0, unlock, exit, \
     loadc 0, lock, loadc 5, loadc 0, store, loadc 0, signal, yield, yield, \
     loadc 6, loadc 0, store, loadc 0, unlock, return";
 
 #[test]
 fn the_saver_reads_the_new_vessel() {
     assert!(line(SAVER).ends_with(" 6"), "{}", line(SAVER));
-    let wrong = runner_line(&image(SAVER), Some(Mistake::WokenPastLock));
-    assert!(wrong.ends_with(" 5"), "{wrong}");
+    // Woken past its lock it reads the old one, and the mutex isn't its own to unlock.
+    let card = read(&image(SAVER)).unwrap();
+    let mut m = Machine::with_mistake(&card, Some(Mistake::WokenPastLock));
+    m.run(99);
+    assert_eq!((m.fault, m.running), (28, Some(1)));
+    assert_eq!(m.threads[1].stack[3], 5);
 }
 
 #[test]
@@ -201,4 +333,38 @@ fn create_tests_the_entry_first() {
         runner_line(&image(&text), Some(Mistake::CreateRoomFirst)),
         "halted 128 -"
     );
+}
+
+#[test]
+fn all_mutexes_are_looked_at() {
+    let wrong = |text: &str| runner_line(&image(text), Some(Mistake::OnlyMutexZero));
+    let second = "newmutex, pop, newmutex, lock, exit";
+    assert_eq!(line(second), "fault 31 0 4 4");
+    assert_eq!(wrong(second), "halted 5 -1");
+    let first = "newmutex, lock, newmutex, exit";
+    assert_eq!(line(first), "fault 31 0 3 3");
+    assert_eq!(wrong(first), "fault 31 0 3 3");
+    // With no mutex made there is none to look at.
+    assert_eq!(wrong("exit"), "halted 1 -1");
+}
+
+#[test]
+fn joiners_are_not_woken_by_a_fault() {
+    let text = awaited_owner("exit");
+    let card = read(&image(&text)).unwrap();
+    let mut m = Machine::with_mistake(&card, Some(Mistake::JoinersWokenFirst));
+    assert_eq!(m.run(99), 21);
+    assert_eq!((m.state, m.fault), (State::Faulted, 31));
+    assert_eq!(m.ready, [0, 2]);
+    // The runner's line doesn't show it.
+    let wrong = runner_line(&image(&text), Some(Mistake::JoinersWokenFirst));
+    assert_eq!(wrong, line(&text));
+}
+
+#[test]
+fn a_return_to_a_caller_is_not_an_ending() {
+    let text = "newmutex, lock, loadc 5, mark, loadc 7, call, halt, return";
+    assert_eq!(line(text), "halted 8 -");
+    let wrong = runner_line(&image(text), Some(Mistake::CallerReturnFaulted));
+    assert_eq!(wrong, "fault 31 0 7 6");
 }

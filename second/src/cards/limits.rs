@@ -512,6 +512,8 @@ pub fn edge(r: &mut Random) -> Code {
         Op::Return,
         Op::Return,
         Op::Return,
+        Op::Exit,
+        Op::Exit,
         Op::Loadr,
         Op::Storer,
         Op::Store,
@@ -520,7 +522,7 @@ pub fn edge(r: &mut Random) -> Code {
         Op::Call,
         Op::Wait,
     ];
-    let mut ops = vec![if r.percent(30) {
+    let mut ops = vec![if r.percent(35) {
         r.pick(&often)
     } else {
         r.pick(&Op::ALL)
@@ -565,7 +567,13 @@ pub fn edge(r: &mut Random) -> Code {
         a.op(Op::Create);
         a.op(Op::Pop);
     }
-    for m in 0..made.mutexes.min(r.range(0, 2)) {
+    // Thread 0 owns none, the first one or two, or the last.
+    let owned = match r.below(5) {
+        0 | 1 => 0..0,
+        2 => (made.mutexes - 1).max(0)..made.mutexes,
+        _ => 0..made.mutexes.min(r.range(1, 2)),
+    };
+    for m in owned {
         a.constant(m);
         a.op(Op::Lock);
     }
@@ -607,6 +615,9 @@ pub fn edge(r: &mut Random) -> Code {
     ]);
     if ops[0] == Op::Return {
         height = r.pick(&[fp, fp + 1, fp + 1, fp + 2]).min(128);
+    }
+    if ops[0] == Op::Exit {
+        height = r.pick(&[0, 0, 1, 3]);
     }
     let numbers = r.range(0, 3).min(height);
     let bottom = height - numbers;
@@ -668,7 +679,13 @@ pub fn edge(r: &mut Random) -> Code {
         2 if made.mutexes > 0 => {
             a.constant(made.mutexes - 1);
             a.op(Op::Lock);
-            a.op(Op::Yield);
+            if r.percent(60) {
+                // Held until thread 0 has ended, so that no fault 31 comes before the point.
+                a.constant(0);
+                a.op(Op::Join);
+            } else {
+                a.op(Op::Yield);
+            }
         }
         3 if made.mutexes > 0 && made.conditions > 0 => {
             a.constant(made.mutexes - 1);

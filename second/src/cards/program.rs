@@ -112,10 +112,10 @@ impl Program<'_> {
             self.expression(2);
             match self.r.below(40) {
                 0 => {
-                    // Ends while owning a mutex.
+                    // Ends while owning a mutex: fault 31.
                     let m = self.r.pick(&self.mutexes);
                     self.a.lock(m);
-                    self.a.op(Op::Exit);
+                    self.a.end_thread(self.r);
                 }
                 1 => self.a.op(Op::Halt),
                 2 => self.a.op(Op::Return),
@@ -299,6 +299,12 @@ impl Program<'_> {
         let cell = self.mutexes[m];
         self.a.lock(cell);
         self.block(&inside, 3);
+        // Now and then the thread may leave in the middle of its locked part.
+        if self.r.percent(2) {
+            self.expression(1);
+            let r = &mut *self.r;
+            self.a.if_top(|a| a.end_with_log(r));
+        }
         self.a.unlock(cell);
     }
 

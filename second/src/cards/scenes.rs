@@ -1,14 +1,14 @@
 //! Short plays with several threads, each with a known point: hand-over, buffers, barriers, joins.
 //! What happens is logged, so that another order gives another result. Yields are strewn between.
 
-use super::asm::{Asm, Code, LOG};
+use super::asm::{Asm, Code, Label, LOG};
 use super::random::Random;
 use crate::machine::Op;
 
 type Scene = fn(&mut Random) -> Code;
 
 /// All plays, each as often as its weight says.
-pub const SCENES: [(usize, Scene); 10] = [
+pub const SCENES: [(usize, Scene); 11] = [
     (3, contention),
     (3, buffer),
     (3, barrier),
@@ -18,6 +18,7 @@ pub const SCENES: [(usize, Scene); 10] = [
     (2, joiners),
     (2, philosophers),
     (2, nested),
+    (3, endings),
     (2, lawless),
 ];
 
@@ -559,6 +560,116 @@ fn nested(r: &mut Random) -> Code {
     }
     a.give();
     a.finish()
+}
+
+/// Threads that end inside their locked part or behind it, by exit or by return, each with one of
+/// several mutexes, while others wait for that mutex or for their end, or nobody does.
+fn endings(r: &mut Random) -> Code {
+    let mut a = Asm::new();
+    let mutexes: Vec<i32> = (0..r.range(1, 4)).map(|_| a.mutex()).collect();
+    let c = a.condition();
+    let (work, watch) = (a.label(), a.label());
+    let entries: Vec<_> = (0..r.range(1, 3)).map(|_| a.label()).collect();
+    let made = r.range(1, 4);
+    let mut threads = Vec::new();
+    for id in 1..=made {
+        let entry = r.pick(&entries);
+        threads.push(a.fork(entry, id));
+        a.yields(r, 1);
+    }
+    // The argument is the thread to join; thread 0 made them first, so they are 1 to `made`.
+    for _ in 0..r.range(0, 2) {
+        let target = r.range(1, made);
+        threads.push(a.fork(watch, target));
+        a.yields(r, 1);
+    }
+    if r.percent(30) {
+        let m = r.pick(&mutexes);
+        locked_part(&mut a, r, m, work);
+        if r.percent(80) {
+            a.unlock(m);
+        }
+    }
+    // Lets those go who gave their mutex up in a wait.
+    a.yields(r, 3);
+    a.broadcast(c);
+    if r.percent(60) {
+        for cell in threads {
+            a.collect(cell);
+        }
+    }
+    a.end_with_log(r);
+
+    for entry in entries {
+        let m = r.pick(&mutexes);
+        a.place(entry);
+        a.yields(r, 2);
+        locked_part(&mut a, r, m, work);
+        match r.below(10) {
+            0..=2 => {}
+            3 => {
+                // Given up in a wait, and not locked again.
+                a.get(m);
+                a.get(c);
+                a.op(Op::Wait);
+                a.op(Op::Pop);
+            }
+            4 => {
+                // Given back, but another one is kept.
+                let other = r.pick(&mutexes);
+                a.unlock(m);
+                a.lock(other);
+            }
+            _ => {
+                a.unlock(m);
+                a.yields(r, 1);
+            }
+        }
+        a.opk(Op::Loadr, -2);
+        a.end_thread(r);
+    }
+
+    // work(x): returns to its caller, who holds a mutex; for one x it ends the thread itself.
+    a.place(work);
+    a.yields(r, 1);
+    a.opk(Op::Loadr, -2);
+    a.constant(r.range(0, 9));
+    a.op(Op::Eq);
+    a.if_top(|a| {
+        a.opk(Op::Loadr, -2);
+        if r.percent(50) {
+            a.op(Op::Exit);
+        } else {
+            // The frame is made to look like a thread's first.
+            a.constant(-1);
+            a.put(-1);
+            a.give();
+        }
+    });
+    a.opk(Op::Loadr, -2);
+    a.op(Op::Neg);
+    a.give();
+
+    a.place(watch);
+    a.opk(Op::Loadr, -2);
+    a.op(Op::Join);
+    a.op(Op::Finalize);
+    a.op(Op::Dup);
+    a.log();
+    a.end_thread(r);
+    a.finish()
+}
+
+/// Locks, and does something with the mutex held.
+fn locked_part(a: &mut Asm, r: &mut Random, m: i32, work: Label) {
+    a.lock(m);
+    a.log_local(-2);
+    a.yields(r, 2);
+    if r.percent(60) {
+        a.opk(Op::Loadr, -2);
+        a.call(work);
+        a.log();
+    }
 }
 
 /// Threads that lock, unlock, wait and wake as it comes, with no discipline at all.
