@@ -1,8 +1,8 @@
 -- Each change of the tables that instructions are made of keeps them tidy and the book right. Assumes nothing.
 use Prim.Native.Nat.{ℕ, _+_, _<_, _≤_}
-use mathlib.Core.Path.{_≡_, refl, sym, subst, _∙_}
+use mathlib.Core.Path.{_≡_, refl, sym, ap, subst, _∙_}
 use mathlib.Core.List.{List, [], _∷_}
-use mathlib.Core.Logic.{_≢_, inl, inr}
+use mathlib.Core.Logic.{_≢_}
 use native.Mathlib.Omega.{arith}
 use lib.IntN.{pos}
 use lib.ListN.{length, getD}
@@ -10,12 +10,12 @@ use borrow.Author.Tests.{lt-ltb}
 use Rattle.machine.specs.Book.{Book, fed, locks, unlocks, creates}
 use Rattle.machine.specs.Book as event
 use Rattle.machine.specs.Lists.{count}
-use Rattle.machine.specs.Plain.{Frame, Tidy}
-use Rattle.machine.specs.Size.{conditionLimit, mutexLimit}
-use Rattle.machine.specs.Tables.{Tables, active, allReady, atCondition, atEnd, atMutex, ended, owned, ownerOf, placeOf, queue, ready, saved, sent, unlocked, unmade, wakeAll, wakeFirst}
+use Rattle.machine.specs.Plain.{Awaited, Frame, SavedFrame, Tidy}
+use Rattle.machine.specs.Size.{mutexLimit}
+use Rattle.machine.specs.Tables.{Tables, active, allReady, atEnd, atMutex, ended, owned, ownerOf, placeOf, queue, ready, saved, sent, unlocked, unmade, wakeAll, wakeFirst}
 use Rattle.machine.proofs.Booked.{Booked, booked-ended, booked-freed, booked-given, booked-made, booked-same, booked-sent, booked-taken, booked-waits, entry}
 use Rattle.machine.proofs.Lists.{less-or-not, same-or-not}
-use Rattle.machine.proofs.Moves.{Kempt, moved, owner-set}
+use Rattle.machine.proofs.Moves.{Kempt, awaited-mutex, awaited-same, goes, may-end, may-ready, may-run, may-wait, moved, owner-set, turn-kept, turn-left, turn-started}
 use Rattle.machine.proofs.Queues.{empty-queue, first-at, first-in-line, first-nobody, first-waiter, no-queue, owned-places, queue-left, saved-depth, saved-frame, saved-line, saved-other, saved-owners, saved-pc, saved-places, saved-queue, saved-sizes}
 
 -- tables that are kept right, and the book beside them
@@ -51,18 +51,17 @@ module _ {size threads mutexes conditions run : ℕ} {tables : Tables} {book : B
                     placed =
                         λ u h.
                         let old = y .placed u h in
+                        let at : placeOf next u ≡ placeOf tables u = ap (λ (l : List ℕ). getD l u 0) (saved-places tables t pc cells fp) in
                         record {
                           not-made = rw (saved-places tables t pc cells fp) (old .not-made);
                           is-made = rw (saved-places tables t pc cells fp) (old .is-made);
                           only-run = rw (saved-places tables t pc cells fp) (old .only-run);
-                          for-mutex = rw (saved-places tables t pc cells fp, saved-owners tables t pc cells fp) (old .for-mutex);
-                          for-condition = rw (saved-places tables t pc cells fp) (old .for-condition);
-                          for-end = rw (saved-places tables t pc cells fp) (old .for-end);
+                          awaited = rw at (awaited-same (old .awaited) next (saved-places tables t pc cells fp) (saved-owners tables t pc cells fp));
                           kept =
                               λ waits.
                               same-or-not u t
                               (λ e.
-                              subst (λ (x : ℕ). Frame (getD (next .pcs) x 0) (getD (next .depths) x 0) (getD (next .frames) x 0)) (sym e)
+                              subst (SavedFrame next) (sym e)
                               (rw (
                                 saved-pc tables t pc cells fp (rw (s .pcs) below),
                                 saved-depth tables t pc cells fp (rw (s .depths) below),
@@ -94,42 +93,21 @@ module _ {size threads mutexes conditions run : ℕ} {tables : Tables} {book : B
   made-at t h p = less-or-not t threads (λ k. k) (λ k. absurd (omega (arith, b .kempt .tidy .placed t h .not-made k)))
 
   -- the running thread leaves for a place that is no mutex's: ready, a condition's queue, or another's end
-  pub leaves : (p : ℕ) → run ≢ size → ready ≤ p → ((m : ℕ) → m < mutexLimit size → p ≢ atMutex m) →
-      ((c : ℕ) → c < conditionLimit size → p ≡ atCondition size c → c < conditions) →
-      ((u : ℕ) → p ≡ atEnd size u → (u < threads) × (placeOf tables u ≢ ended)) →
-      Frame (getD (tables .pcs) run 0) (getD (tables .depths) run 0) (getD (tables .frames) run 0) →
-      Both size threads mutexes conditions size (sent tables run p) book
-  leaves p some waits no-mutex condition end f =
+  pub leaves : (p : ℕ) → run ≢ size → ready ≤ p → ((m : ℕ) → m < mutexLimit size → p ≢ atMutex m) → Awaited size threads mutexes conditions tables p →
+      SavedFrame tables run → Both size threads mutexes conditions size (sent tables run p) book
+  leaves p some high no-mutex w f =
       let y = b .kempt .tidy in
       let r = y .runner some in
       let below : run < size = omega (arith, r .0, y .counts .threads-fit) in
       record {
-        kempt =
-            moved (b .kempt) run p threads size
-            (record {
-              below = below;
-              more = omega arith;
-              most = y .counts .threads-fit;
-              only-new = λ s h away. h;
-              is-made = r .0;
-              somewhere = omega arith;
-              to-run = λ e. absurd (omega arith);
-              others-run = λ s h away e. absurd (away e);
-              runner = λ h. absurd (h refl);
-              to-mutex = λ m h e. absurd (no-mutex m h e);
-              to-condition = condition;
-              to-end = λ u e. (end u e .0, λ away. end u e .1);
-              to-ended = λ e. absurd (omega arith);
-              has-frame = λ h. f;
-            });
+        kempt = goes (b .kempt) run p size (r .0) (turn-left (λ e. omega (arith, e))) (may-wait high w f);
         booked =
             booked-sent size tables book (b .booked) run p (inside run below) no-mutex (λ m h e. omega (arith, r .1, e))
             (rw (r .1) (lt-ltb ended p (omega arith)));
       }
 
   -- the running thread waits for a mutex that is owned
-  pub waits : (m : ℕ) → run ≢ size → m < mutexes → ownerOf tables m ≢ size →
-      Frame (getD (tables .pcs) run 0) (getD (tables .depths) run 0) (getD (tables .frames) run 0) →
+  pub waits : (m : ℕ) → run ≢ size → m < mutexes → ownerOf tables m ≢ size → SavedFrame tables run →
       Both size threads mutexes conditions size (sent tables run (atMutex m)) (fed book (entry run (locks m)))
   waits m some made held f =
       let y = b .kempt .tidy in
@@ -137,24 +115,7 @@ module _ {size threads mutexes conditions run : ℕ} {tables : Tables} {book : B
       let below : run < size = omega (arith, r .0, y .counts .threads-fit) in
       let limit : m < mutexLimit size = omega (arith, y .counts .mutexes-fit) in
       record {
-        kempt =
-            moved (b .kempt) run (atMutex m) threads size
-            (record {
-              below = below;
-              more = omega arith;
-              most = y .counts .threads-fit;
-              only-new = λ s h away. h;
-              is-made = r .0;
-              somewhere = omega arith;
-              to-run = λ e. absurd (omega arith);
-              others-run = λ s h away e. absurd (away e);
-              runner = λ h. absurd (h refl);
-              to-mutex = λ k h e. let same : m ≡ k = omega (arith, e) in (rw (← same) made, rw (← same) held);
-              to-condition = λ c h e. absurd (omega (arith, e, limit));
-              to-end = λ u e. absurd (omega (arith, e, limit));
-              to-ended = λ e. absurd (omega arith);
-              has-frame = λ h. f;
-            });
+        kempt = goes (b .kempt) run (atMutex m) size (r .0) (turn-left (λ e. omega (arith, e))) (may-wait (omega arith) (awaited-mutex m limit made held) f);
         booked =
             booked-waits size tables book (b .booked) m run limit (inside run below) (once run below) (λ k h e. omega (arith, r .1, e))
             (rw (r .1));
@@ -163,59 +124,26 @@ module _ {size threads mutexes conditions run : ℕ} {tables : Tables} {book : B
   -- the first of the ready queue starts, where none runs
   pub starts : (t : ℕ) (rest : List ℕ) → run ≡ size → queue tables ready ≡ t ∷ rest → Both size threads mutexes conditions t (sent tables t active) book
   starts t rest none e =
-      let y = b .kempt .tidy in
       let below : t < size = head-below ready t rest e in
       let at : placeOf tables t ≡ ready = first-at tables ready t rest e in
-      let made : t < threads = made-at t below (omega arith) in
       record {
-        kempt =
-            moved (b .kempt) t active threads t
-            (record {
-              below = below;
-              more = omega arith;
-              most = y .counts .threads-fit;
-              only-new = λ s h away. h;
-              is-made = made;
-              somewhere = omega arith;
-              to-run = λ e. refl;
-              others-run = λ s h away e. absurd (omega (arith, e, none));
-              runner = λ h. inl (refl, refl);
-              to-mutex = λ m h e. absurd (omega (arith, e));
-              to-condition = λ c h e. absurd (omega (arith, e));
-              to-end = λ u e. absurd (omega (arith, e));
-              to-ended = λ e. absurd (omega (arith, e));
-              has-frame = λ h. absurd (omega arith);
-            });
+        kempt = goes (b .kempt) t active t (made-at t below (omega arith)) (turn-started none) may-run;
         booked =
             booked-sent size tables book (b .booked) t active (inside t below) (λ m h e. omega (arith, e)) (λ m h e. omega (arith, at, e))
             (rw at);
       }
 
+  -- a thread in a queue doesn't run
+  idle-at : (t : ℕ) → t < size → ready ≤ placeOf tables t → run ≢ t
+  idle-at t below high e = let r = b .kempt .tidy .runner (λ none. omega (arith, e, none)) in let active-too : placeOf tables t ≡ active = rw e at (r .1) in omega arith
+
   -- a thread in the queue of a condition, or of a thread's end, becomes ready
   pub wakes : (t q : ℕ) → t < size → placeOf tables t ≡ q → ready < q → ((m : ℕ) → m < mutexLimit size → q ≢ atMutex m) → Both size threads mutexes conditions run (sent tables t ready) book
   wakes t q below at high no-mutex =
-      let y = b .kempt .tidy in
-      let made : t < threads = made-at t below (omega arith) in
-      let idle : run ≢ t = λ e. let r = y .runner (λ none. omega (arith, e, none)) in let active-too : placeOf tables t ≡ active = rw e at (r .1) in omega arith in
       record {
         kempt =
-            moved (b .kempt) t ready threads run
-            (record {
-              below = below;
-              more = omega arith;
-              most = y .counts .threads-fit;
-              only-new = λ s h away. h;
-              is-made = made;
-              somewhere = omega arith;
-              to-run = λ e. absurd (omega (arith, e));
-              others-run = λ s h away e. e;
-              runner = λ h. inr (refl, idle);
-              to-mutex = λ m h e. absurd (omega (arith, e));
-              to-condition = λ c h e. absurd (omega (arith, e));
-              to-end = λ u e. absurd (omega (arith, e));
-              to-ended = λ e. absurd (omega (arith, e));
-              has-frame = λ h. y .placed t below .kept (omega arith);
-            });
+            goes (b .kempt) t ready run (made-at t below (omega arith)) (turn-kept (idle-at t below (omega arith)) (λ e. omega (arith, e)))
+            (may-ready (b .kempt .tidy .placed t below .kept (omega arith)));
         booked =
             booked-sent size tables book (b .booked) t ready (inside t below) (λ m h e. omega (arith, e)) (λ m h e. no-mutex m h (sym at ∙ e))
             (rw at (sym (lt-ltb ended q (omega arith))));
@@ -227,7 +155,7 @@ module _ {size threads mutexes conditions run : ℕ} {tables : Tables} {book : B
       let y = b .kempt .tidy in
       let r = y .runner some in
       let limit : m < mutexLimit size = omega (arith, y .counts .mutexes-fit) in
-      let idle : queue tables (atMutex m) ≡ [] = no-queue tables (atMutex m) (λ t h e. y .placed t (in-line t h) .for-mutex m limit e .1 none) in
+      let idle : queue tables (atMutex m) ≡ [] = no-queue tables (atMutex m) (λ t h e. y .placed t (in-line t h) .awaited .for-mutex m limit e .1 none) in
       record {
         kempt = owner-set (b .kempt) m run made (λ h. (r .0, omega (arith, r .1))) (λ e. absurd (some e));
         booked = booked-taken size tables book (b .booked) m run limit (rw (b .kempt .sizes .owners) limit) none idle some;
@@ -259,32 +187,16 @@ module _ {size threads mutexes conditions run : ℕ} {tables : Tables} {book : B
           let real : w ≢ size = λ same. omega arith in
           let mine : w < threads = made-at w below (omega arith) in
           let next = owner-set (b .kempt) m w made (λ h. (mine, omega (arith, at))) (λ same. absurd (real same)) in
-          let idle : run ≢ w = λ same. let r = y .runner (λ none. omega (arith, same, none)) in let active-too : placeOf tables w ≡ active = rw same at (r .1) in omega arith in
           rw (first-waiter tables (atMutex m) w rest e)
           (record {
             kempt =
-                moved next w ready threads run
-                (record {
-                  below = below;
-                  more = omega arith;
-                  most = y .counts .threads-fit;
-                  only-new = λ s h away. h;
-                  is-made = mine;
-                  somewhere = omega arith;
-                  to-run = λ k. absurd (omega (arith, k));
-                  others-run = λ s h away k. k;
-                  runner = λ h. inr (refl, idle);
-                  to-mutex = λ j h k. absurd (omega (arith, k));
-                  to-condition = λ c h k. absurd (omega (arith, k));
-                  to-end = λ u k. absurd (omega (arith, k));
-                  to-ended = λ k. absurd (omega (arith, k));
-                  has-frame = λ h. next .tidy .placed w below .kept (rw (owned-places tables m w, at) (omega arith));
-                });
+                goes next w ready run mine (turn-kept (idle-at w below (omega arith)) (λ k. omega (arith, k)))
+                (may-ready (next .tidy .placed w below .kept (rw (owned-places tables m w, at) (omega arith))));
             booked = booked-given size tables book (b .booked) m t (ownerOf tables m) w rest limit stored refl held e at (inside w below) (once w below) real;
           })
 
   -- a thread is made, and is ready
-  pub makes : (t : ℕ) → threads < size → Frame (getD (tables .pcs) threads 0) (getD (tables .depths) threads 0) (getD (tables .frames) threads 0) →
+  pub makes : (t : ℕ) → threads < size → SavedFrame tables threads →
       Both size (threads + 1) mutexes conditions run (sent tables threads ready) (fed book (entry t (creates (pos threads))))
   makes t room f =
       let y = b .kempt .tidy in
@@ -294,21 +206,13 @@ module _ {size threads mutexes conditions run : ℕ} {tables : Tables} {book : B
         kempt =
             moved (b .kempt) threads ready (threads + 1) run
             (record {
-              below = room;
               more = omega arith;
               most = omega arith;
               only-new = λ s h away. less-or-not s threads (λ k. k) (λ k. absurd (away (omega arith)));
               is-made = omega arith;
-              somewhere = omega arith;
-              to-run = λ e. absurd (omega (arith, e));
-              others-run = λ s h away e. e;
-              runner = λ h. inr (refl, idle);
-              to-mutex = λ m h e. absurd (omega (arith, e));
-              to-condition = λ c h e. absurd (omega (arith, e));
-              to-end = λ u e. absurd (omega (arith, e));
-              to-ended = λ e. absurd (omega (arith, e));
-              has-frame = λ h. f;
-            });
+            })
+            (turn-kept idle (λ e. omega (arith, e)))
+            (may-ready f);
         booked = booked-made size tables book (b .booked) threads ready (inside threads room) (λ m h e. omega (arith, e)) (λ m h e. omega (arith, none, e)) (omega arith) t;
       }
 
@@ -317,27 +221,9 @@ module _ {size threads mutexes conditions run : ℕ} {tables : Tables} {book : B
   stops some e free =
       let y = b .kempt .tidy in
       let r = y .runner some in
-      let below : run < size = omega (arith, r .0, y .counts .threads-fit) in
       record {
-        kempt =
-            moved (b .kempt) run ended threads size
-            (record {
-              below = below;
-              more = omega arith;
-              most = y .counts .threads-fit;
-              only-new = λ s h away. h;
-              is-made = r .0;
-              somewhere = omega arith;
-              to-run = λ k. absurd (omega (arith, k));
-              others-run = λ s h away k. absurd (away k);
-              runner = λ h. absurd (h refl);
-              to-mutex = λ m h k. absurd (omega (arith, k));
-              to-condition = λ c h k. absurd (omega (arith, k));
-              to-end = λ u k. absurd (omega (arith, k));
-              to-ended = λ k. (nobody-at (atEnd size run) e, free);
-              has-frame = λ h. absurd (omega (arith, h));
-            });
-        booked = booked-ended size tables book (b .booked) run (inside run below) (λ m h k. omega (arith, r .1, k));
+        kempt = goes (b .kempt) run ended size (r .0) (turn-left (λ k. omega (arith, k))) (may-end (nobody-at (atEnd size run) e) free);
+        booked = booked-ended size tables book (b .booked) run (inside run (omega (arith, r .0, y .counts .threads-fit))) (λ m h k. omega (arith, r .1, k));
       }
 
 -- the first of a queue that is no mutex's becomes ready, if there is one

@@ -23,7 +23,7 @@ use Rattle.machine.specs.Tables.{Tables, atCondition, atEnd, atMutex, en
 use Rattle.machine.proofs.Booked.{entry}
 use Rattle.machine.proofs.Changes.{Both, gives, makes, saves, takes, wakes-all, wakes-first}
 use Rattle.machine.proofs.Every.{and-first, and-second}
-use Rattle.machine.proofs.Moves.{counts-grow}
+use Rattle.machine.proofs.Moves.{awaited-end, awaited-low, counts-grow}
 use Rattle.machine.proofs.Outcomes.{Ends, ends-cond, ends-divides, ends-fits, ends-needs, ends-rooms, ends-within}
 use Rattle.machine.proofs.Queues.{saved-depth, saved-frame, saved-pc}
 use Rattle.machine.proofs.Steady.{Landed, Runs, active-landed, blocked-right, ends-right, lock-blocked, wait-right}
@@ -287,8 +287,7 @@ module _ (size n : ℕ) (s : State) (book : Book) (y : Runs size s book) (short 
   exec-yield : Done instr.yield
   unfolding exec eventOf fed
   exec-yield =
-      blocked-right size s book y ready (omega arith) (λ m h e. omega (arith, e)) (λ c h e. absurd (omega (arith, e)))
-      (λ u e. absurd (omega (arith, e)))
+      blocked-right size s book y ready (omega arith) (λ m h e. omega (arith, e)) (awaited-low ready (omega arith))
 
   exec-join : Done instr.join
   unfolding exec eventOf fed
@@ -300,8 +299,7 @@ module _ (size n : ℕ) (s : State) (book : Book) (y : Runs size s book) (short 
       ends-cond _ (eqb (placeOf (s .tables) t) ended) _ _
       (λ k. active-landed size s book (y .steady) (y .marked) (y .some))
       (λ k.
-      blocked-right size s book y (atEnd size t) (omega arith) (no-mutex-e t) (λ c hc i. absurd (omega (arith, i, hc)))
-      (λ u i. let same : t ≡ u = omega (arith, i) in (rw (← same) made, rw (← same) (eqb-false _ _ k))))))
+      blocked-right size s book y (atEnd size t) (omega arith) (no-mutex-e t) (awaited-end t made (eqb-false _ _ k)))))
 
   exec-finalize : Done instr.finalize
   unfolding exec eventOf fed

@@ -67,7 +67,7 @@ module _ (size : ℕ) (s : State) (book : Book) (r : Right size s book) where
       (λ k. omega arith)
       (λ k.
       let y = r .steady .both .kempt .tidy in
-      let end = y .placed t below .for-end (placeOf (s .tables) t - (4 + 4 * size)) (omega arith) in
+      let end = y .placed t below .awaited .for-end (placeOf (s .tables) t - (4 + 4 * size)) (omega arith) in
       omega (arith, end .0, y .counts .threads-fit))
 
   one-place : (t : ℕ) → placesOf size s t ≡ cond (book .living t) 1 0
@@ -106,7 +106,7 @@ module _ (size : ℕ) (s : State) (book : Book) (r : Right size s book) where
           let both = r .steady .both in
           let inside : t < size = head-below both (atMutex m) t rest e in
           let at = first-at (s .tables) (atMutex m) t rest e in
-          absurd (both .kempt .tidy .placed t inside .for-mutex m below at .1 unowned)
+          absurd (both .kempt .tidy .placed t inside .awaited .for-mutex m below at .1 unowned)
 
   pub fair : Fair size s book
   fair =

@@ -1,66 +1,179 @@
--- The tables stay tidy over each move of a thread, a mutex's new owner, a save, and more counts. Assumes nothing.
+-- The tables stay tidy over each move of a thread, a mutex's new owner, and more counts. Assumes nothing.
 use Prim.Native.Nat.{ℕ, _<_, _≤_}
-use mathlib.Core.Path.{_≡_, sym, ap, subst, _∙_}
-use mathlib.Core.Logic.{_⊎_, _≢_, ⊎-elim}
+use mathlib.Core.Path.{_≡_, refl, sym, ap, subst, _∙_}
+use mathlib.Core.List.{List}
+use mathlib.Core.Logic.{_⊎_, _≢_, inl, inr, ⊎-elim}
 use native.Mathlib.Omega.{arith}
-use lib.ListN.{getD}
-use Rattle.machine.specs.Plain.{Frame, Placed, Tidy}
+use lib.ListN.{length, getD}
+use Rattle.machine.specs.Plain.{Awaited, Placed, SavedFrame, Tidy}
 use Rattle.machine.specs.Size.{conditionLimit, mutexLimit}
 use Rattle.machine.specs.Tables.{Tables, active, atCondition, atEnd, atMutex, ended, owned, ownerOf, placeOf, ready, sent}
 use Rattle.machine.proofs.Lists.{same-or-not}
 use Rattle.machine.proofs.Queues.{Sizes, owned-here, owned-line, owned-places, owned-saved, owned-sizes, owned-there, sent-count, sent-here, sent-owner, sent-saved, sent-sizes, sent-there}
+
+-- ---- what the places ask where a thread waits there
+
+module _ {size threads mutexes conditions : ℕ} {tables : Tables} where
+  -- at the places up to the ready queue's nobody waits for anything
+  pub awaited-low : (p : ℕ) → p ≤ ready → Awaited size threads mutexes conditions tables p
+  awaited-low p low =
+      record {
+        for-mutex = λ m h e. absurd (omega (arith, e));
+        for-condition = λ c h e. absurd (omega (arith, e));
+        for-end = λ u e. absurd (omega (arith, e));
+      }
+
+  pub awaited-mutex : (m : ℕ) → m < mutexLimit size → m < mutexes → ownerOf tables m ≢ size → Awaited size threads mutexes conditions tables (atMutex m)
+  awaited-mutex m limit made held =
+      record {
+        for-mutex = λ k h e. let same : m ≡ k = omega (arith, e) in (rw (← same) made, rw (← same) held);
+        for-condition = λ c h e. absurd (omega (arith, e, limit));
+        for-end = λ u e. absurd (omega (arith, e, limit));
+      }
+
+  pub awaited-condition : (c : ℕ) → c < conditionLimit size → c < conditions → Awaited size threads mutexes conditions tables (atCondition size c)
+  awaited-condition c limit made =
+      record {
+        for-mutex = λ m h e. absurd (omega (arith, e));
+        for-condition = λ k h e. let same : c ≡ k = omega (arith, e) in rw (← same) made;
+        for-end = λ u e. absurd (omega (arith, e, limit));
+      }
+
+  pub awaited-end : (t : ℕ) → t < threads → placeOf tables t ≢ ended → Awaited size threads mutexes conditions tables (atEnd size t)
+  awaited-end t made lives =
+      record {
+        for-mutex = λ m h e. absurd (omega (arith, e));
+        for-condition = λ c h e. absurd (omega (arith, e));
+        for-end = λ u e. let same : t ≡ u = omega (arith, e) in (rw (← same) made, rw (← same) lives);
+      }
+
+  module _ {p : ℕ} (w : Awaited size threads mutexes conditions tables p) where
+    -- more is made
+    pub awaited-more : (threads′ mutexes′ conditions′ : ℕ) → threads ≤ threads′ → mutexes ≤ mutexes′ → conditions ≤ conditions′ → Awaited size threads′ mutexes′ conditions′ tables p
+    awaited-more threads′ mutexes′ conditions′ more more-m more-c =
+        record {
+          for-mutex = λ m h e. let was = w .for-mutex m h e in (omega (arith, was .0), was .1);
+          for-condition = λ c h e. omega (arith, w .for-condition c h e);
+          for-end = λ u e. let was = w .for-end u e in (omega (arith, was .0), was .1);
+        }
+
+    -- a thread goes elsewhere, and doesn't end where its end is waited for
+    pub awaited-sent : (t q : ℕ) → t < length (tables .places) → (q ≡ ended → p ≢ atEnd size t) → Awaited size threads mutexes conditions (sent tables t q) p
+    awaited-sent t q below lives =
+        record {
+          for-mutex = λ m h e. rw (sent-owner tables t q m) (w .for-mutex m h e);
+          for-condition = w .for-condition;
+          for-end =
+              λ u e.
+              let was = w .for-end u e in (
+                was .0,
+                same-or-not u t
+                    (λ is stop. lives (sym (sent-here tables t q below) ∙ ap (placeOf (sent tables t q)) (sym is) ∙ stop) (e ∙ ap (atEnd size) is))
+                    (λ far stop. was .1 (sym (sent-there tables t q u far) ∙ stop)),
+              );
+        }
+
+    -- tables with the same places and owners
+    pub awaited-same : (next : Tables) → next .places ≡ tables .places → next .owners ≡ tables .owners → Awaited size threads mutexes conditions next p
+    awaited-same next places owners =
+        record { for-mutex = rw owners (w .for-mutex); for-condition = w .for-condition; for-end = rw places (w .for-end) }
+
+    -- a mutex gets another owner, or none where nobody waits for it
+    pub awaited-owned : (m o : ℕ) → m < length (tables .owners) → (o ≡ size → p ≢ atMutex m) → Awaited size threads mutexes conditions (owned tables m o) p
+    awaited-owned m o below wanted =
+        record {
+          for-mutex =
+              λ j h e.
+              let was = w .for-mutex j h e in (
+                was .0,
+                same-or-not j m
+                    (λ is none. wanted (sym (owned-here tables m o below) ∙ ap (ownerOf (owned tables m o)) (sym is) ∙ none) (e ∙ ap atMutex is))
+                    (λ far. rw (owned-there tables m o j far) (was .1)),
+              );
+          for-condition = w .for-condition;
+          for-end = λ u e. rw (owned-places tables m o) (w .for-end u e);
+        }
+
+-- ---- the moves of a thread
+
+-- who runs when thread t goes to place p: run before, and run′ afterwards
+pub record Turn (size run t p run′ : ℕ) : Type 0 where
+  pub to-run : p ≡ active → t ≡ run′
+  pub others : (s : ℕ) → s < size → s ≢ t → s ≡ run → s ≡ run′
+  pub runner : run′ ≢ size → ((run′ ≡ t) × (p ≡ active)) ⊎ ((run′ ≡ run) × (run ≢ t))
+
+-- the running thread leaves, and none runs
+pub turn-left : {size run p : ℕ} → p ≢ active → Turn size run run p size
+turn-left away = record { to-run = λ e. absurd (away e); others = λ s h far e. absurd (far e); runner = λ h. absurd (h refl) }
+
+-- where none ran, the thread does
+pub turn-started : {size run t : ℕ} → run ≡ size → Turn size run t active t
+turn-started none = record { to-run = λ e. refl; others = λ s h far e. absurd (omega (arith, e, none)); runner = λ h. inl (refl, refl) }
+
+-- a thread that doesn't run goes elsewhere
+pub turn-kept : {size run t p : ℕ} → run ≢ t → p ≢ active → Turn size run t p run
+turn-kept idle away = record { to-run = λ e. absurd (away e); others = λ s h far e. e; runner = λ h. inr (refl, idle) }
+
+-- thread t may go to place p
+pub record May (size threads mutexes conditions : ℕ) (tables : Tables) (t p : ℕ) : Type 0 where
+  pub somewhere : 0 < p
+  pub awaited : Awaited size threads mutexes conditions tables p
+  -- it ends only where nobody waits for that and it owns nothing
+  pub to-ended : p ≡ ended → ((s : ℕ) → s < size → placeOf tables s ≢ atEnd size t) × ((m : ℕ) → m < mutexLimit size → ownerOf tables m ≢ t)
+  pub has-frame : ready ≤ p → SavedFrame tables t
+
+module _ {size threads mutexes conditions : ℕ} {tables : Tables} {t : ℕ} where
+  -- to the ready queue or another, its registers saved
+  pub may-wait : {p : ℕ} → ready ≤ p → Awaited size threads mutexes conditions tables p → SavedFrame tables t → May size threads mutexes conditions tables t p
+  may-wait high w f = record { somewhere = omega arith; awaited = w; to-ended = λ e. absurd (omega (arith, e)); has-frame = λ h. f }
+
+  pub may-ready : SavedFrame tables t → May size threads mutexes conditions tables t ready
+  may-ready f = may-wait (omega arith) (awaited-low ready (omega arith)) f
+
+  pub may-run : May size threads mutexes conditions tables t active
+  may-run = record { somewhere = omega arith; awaited = awaited-low active (omega arith); to-ended = λ e. absurd (omega (arith, e)); has-frame = λ h. absurd (omega (arith, h)) }
+
+  pub may-end : ((s : ℕ) → s < size → placeOf tables s ≢ atEnd size t) → ((m : ℕ) → m < mutexLimit size → ownerOf tables m ≢ t) →
+      May size threads mutexes conditions tables t ended
+  may-end unawaited free = record { somewhere = omega arith; awaited = awaited-low ended (omega arith); to-ended = λ e. (unawaited, free); has-frame = λ h. absurd (omega (arith, h)) }
+
+-- so many threads are made afterwards: t, and no other that wasn't
+pub record Makes (size threads t threads′ : ℕ) : Type 0 where
+  pub more : threads ≤ threads′
+  pub most : threads′ ≤ size
+  pub only-new : (s : ℕ) → s < threads′ → s ≢ t → s < threads
+  pub is-made : t < threads′
 
 -- tables of the box's sizes, and tidy
 pub record Kempt (size threads mutexes conditions run : ℕ) (tables : Tables) : Type 0 where
   pub sizes : Sizes size tables
   pub tidy : Tidy size threads mutexes conditions run tables
 
-module _ {size threads mutexes conditions run : ℕ} {tables : Tables} (k : Kempt size threads mutexes conditions run tables) (t p threads′ run′ : ℕ) where
-  -- thread t may go to place p, after which so many threads are made and run′ runs
-  pub record May : Type 0 where
-    pub below : t < size
-    pub more : threads ≤ threads′
-    pub most : threads′ ≤ size
-    pub only-new : (s : ℕ) → s < threads′ → s ≢ t → s < threads
-    pub is-made : t < threads′
-    pub somewhere : 0 < p
-    pub to-run : p ≡ active → t ≡ run′
-    pub others-run : (s : ℕ) → s < size → s ≢ t → s ≡ run → s ≡ run′
-    pub runner : run′ ≢ size → ((run′ ≡ t) × (p ≡ active)) ⊎ ((run′ ≡ run) × (run ≢ t))
-    pub to-mutex : (m : ℕ) → m < mutexLimit size → p ≡ atMutex m → (m < mutexes) × (ownerOf tables m ≢ size)
-    pub to-condition : (c : ℕ) → c < conditionLimit size → p ≡ atCondition size c → c < conditions
-    pub to-end : (u : ℕ) → p ≡ atEnd size u → (u < threads′) × (u ≢ t → placeOf tables u ≢ ended)
-    -- a thread may end where nobody waits for it and it owns nothing
-    pub to-ended : p ≡ ended → ((s : ℕ) → s < size → placeOf tables s ≢ atEnd size t) × ((m : ℕ) → m < mutexLimit size → ownerOf tables m ≢ t)
-    pub has-frame : ready ≤ p → Frame (getD (tables .pcs) t 0) (getD (tables .depths) t 0) (getD (tables .frames) t 0)
+module _ {size threads mutexes conditions run : ℕ} {tables : Tables} (k : Kempt size threads mutexes conditions run tables) where
+  module _ (t p threads′ run′ : ℕ) (made : Makes size threads t threads′) (turn : Turn size run t p run′) (may : May size threads mutexes conditions tables t p) where
+    inside : t < length (tables .places)
+    inside = rw (k .sizes .places) (omega (arith, made .is-made, made .most))
 
-  module _ (may : May) where
     here : placeOf (sent tables t p) t ≡ p
-    here = sent-here tables t p (rw (k .sizes .places) (may .below))
+    here = sent-here tables t p inside
 
     there : (s : ℕ) → s ≢ t → placeOf (sent tables t p) s ≡ placeOf tables s
     there = sent-there tables t p
 
-    frames : (s : ℕ) → Frame (getD (tables .pcs) s 0) (getD (tables .depths) s 0) (getD (tables .frames) s 0) →
-        Frame (getD (sent tables t p .pcs) s 0) (getD (sent tables t p .depths) s 0) (getD (sent tables t p .frames) s 0)
+    -- what is waited for at a place, and what is saved of a thread, is so afterwards
+    waits : {q : ℕ} → Awaited size threads mutexes conditions tables q → (p ≡ ended → q ≢ atEnd size t) → Awaited size threads′ mutexes conditions (sent tables t p) q
+    waits w lives = awaited-sent (awaited-more w threads′ mutexes conditions (made .more) (omega arith) (omega arith)) t p inside lives
+
+    frames : (s : ℕ) → SavedFrame tables s → SavedFrame (sent tables t p) s
     frames s f = let same = sent-saved tables t p in rw (same .0, same .1, same .2) f
 
     itself : Placed size threads′ mutexes conditions run′ (sent tables t p) t
     itself =
         record {
-          not-made = λ h. absurd (omega (arith, may .is-made));
+          not-made = λ h. absurd (omega (arith, made .is-made));
           is-made = λ h. rw here (may .somewhere);
-          only-run = λ e. may .to-run (sym here ∙ e);
-          for-mutex = λ m h e. rw (sent-owner tables t p m) (may .to-mutex m h (sym here ∙ e));
-          for-condition = λ c h e. may .to-condition c h (sym here ∙ e);
-          for-end =
-              λ u e.
-              let old = may .to-end u (sym here ∙ e) in (
-                old .0,
-                same-or-not u t
-                    (λ is stop. let mine : p ≡ ended = sym here ∙ ap (placeOf (sent tables t p)) (sym is) ∙ stop in omega (arith, sym here ∙ e, mine))
-                    (λ away stop. old .1 away (sym (there u away) ∙ stop)),
-              );
+          only-run = λ e. turn .to-run (sym here ∙ e);
+          awaited = rw here (waits (may .awaited) (λ stop e. omega (arith, stop, e)));
           kept = λ h. frames t (may .has-frame (rw here at h));
         }
 
@@ -69,21 +182,10 @@ module _ {size threads mutexes conditions run : ℕ} {tables : Tables} (k : Kemp
         let old = k .tidy .placed s below in
         let stays = there s away in
         record {
-          not-made = λ h. stays ∙ old .not-made (omega (arith, may .more));
-          is-made = λ h. rw stays (old .is-made (may .only-new s h away));
-          only-run = λ e. may .others-run s below away (old .only-run (sym stays ∙ e));
-          for-mutex = λ m h e. rw (sent-owner tables t p m) (old .for-mutex m h (sym stays ∙ e));
-          for-condition = λ c h e. old .for-condition c h (sym stays ∙ e);
-          for-end =
-              λ u e.
-              let was = old .for-end u (sym stays ∙ e) in (
-                omega (arith, was .0, may .more),
-                same-or-not u t
-                    (λ is stop.
-                    let mine : p ≡ ended = sym here ∙ ap (placeOf (sent tables t p)) (sym is) ∙ stop in
-                    may .to-ended mine .0 s below (sym stays ∙ e ∙ ap (atEnd size) is))
-                    (λ far stop. was .1 (sym (there u far) ∙ stop)),
-              );
+          not-made = λ h. stays ∙ old .not-made (omega (arith, made .more));
+          is-made = λ h. rw stays (old .is-made (made .only-new s h away));
+          only-run = λ e. turn .others s below away (old .only-run (sym stays ∙ e));
+          awaited = rw stays (waits (old .awaited) (λ stop. may .to-ended stop .0 s below));
           kept = λ h. frames s (old .kept (rw stays at h));
         }
 
@@ -95,8 +197,8 @@ module _ {size threads mutexes conditions run : ℕ} {tables : Tables} (k : Kemp
               record {
                 counts =
                     record {
-                      some-thread = omega (arith, k .tidy .counts .some-thread, may .more);
-                      threads-fit = may .most;
+                      some-thread = omega (arith, k .tidy .counts .some-thread, made .more);
+                      threads-fit = made .most;
                       mutexes-fit = k .tidy .counts .mutexes-fit;
                       conditions-fit = k .tidy .counts .conditions-fit;
                     };
@@ -109,16 +211,16 @@ module _ {size threads mutexes conditions run : ℕ} {tables : Tables} (k : Kemp
                 runner =
                     λ h.
                     ⊎-elim
-                    (λ now. let at : placeOf (sent tables t p) run′ ≡ active = ap (placeOf (sent tables t p)) (now .0) ∙ here ∙ now .1 in (omega (arith, now .0, may .is-made), at))
+                    (λ now. let at : placeOf (sent tables t p) run′ ≡ active = ap (placeOf (sent tables t p)) (now .0) ∙ here ∙ now .1 in (omega (arith, now .0, made .is-made), at))
                     (λ old.
                     let was = k .tidy .runner (λ e. h (old .0 ∙ e)) in
                     let at : placeOf (sent tables t p) run′ ≡ active = ap (placeOf (sent tables t p)) (old .0) ∙ there run (old .1) ∙ was .1 in
-                    (omega (arith, old .0, was .0, may .more), at))
-                    (may .runner h);
+                    (omega (arith, old .0, was .0, made .more), at))
+                    (turn .runner h);
                 holders =
                     λ m h e.
                     let was = k .tidy .holders m h (λ free. e (sent-owner tables t p m ∙ free)) in
-                    (was .0, rw (sent-owner tables t p m) (omega (arith, was .1, may .more)));
+                    (was .0, rw (sent-owner tables t p m) (omega (arith, was .1, made .more)));
                 owners-live =
                     λ m h e.
                     rw (sent-owner tables t p m)
@@ -127,6 +229,10 @@ module _ {size threads mutexes conditions run : ℕ} {tables : Tables} (k : Kemp
                     (λ away. rw (there (ownerOf tables m) away) (k .tidy .owners-live m h (λ free. e (sent-owner tables t p m ∙ free)))));
               };
         }
+
+  -- a thread that was made goes to a place
+  pub goes : (t p run′ : ℕ) → t < threads → Turn size run t p run′ → May size threads mutexes conditions tables t p → Kempt size threads mutexes conditions run′ (sent tables t p)
+  goes t p run′ made = moved t p threads run′ (record { more = omega arith; most = k .tidy .counts .threads-fit; only-new = λ s h away. h; is-made = made })
 
 -- a mutex that was made gets a live thread as its owner; or none, where nobody waits for it
 pub owner-set : {size threads mutexes conditions run : ℕ} {tables : Tables} → Kempt size threads mutexes conditions run tables →
@@ -148,21 +254,12 @@ owner-set {size} {threads} {mutexes} {conditions} {run} {tables} k m o made real
             placed =
                 λ t h.
                 let old = y .placed t h in
+                let at : placeOf next t ≡ placeOf tables t = ap (λ (l : List ℕ). getD l t 0) same in
                 record {
                   not-made = rw same (old .not-made);
                   is-made = rw same (old .is-made);
                   only-run = rw same (old .only-run);
-                  for-mutex =
-                      λ j hj e.
-                      let at : placeOf tables t ≡ atMutex j = rw same at e in
-                      let was = old .for-mutex j hj at in (
-                        was .0,
-                        same-or-not j m
-                            (λ i. λ none. unwanted (sym here ∙ ap (ownerOf next) (sym i) ∙ none) t h (at ∙ ap atMutex i))
-                            (λ i. rw (owned-there tables m o j i) (was .1)),
-                      );
-                  for-condition = rw same (old .for-condition);
-                  for-end = rw same (old .for-end);
+                  awaited = rw at (awaited-owned (old .awaited) m o (rw (k .sizes .owners) limit) (λ none. unwanted none t h));
                   kept = rw (same, saves .0, saves .1, saves .2) (old .kept);
                 };
             runner = rw same (y .runner);
@@ -188,7 +285,7 @@ owner-set {size} {threads} {mutexes} {conditions} {run} {tables} k m o made real
 pub counts-grow : {size threads mutexes conditions run : ℕ} {tables : Tables} → Kempt size threads mutexes conditions run tables →
     (mutexes′ conditions′ : ℕ) → mutexes ≤ mutexes′ → mutexes′ ≤ mutexLimit size → conditions ≤ conditions′ → conditions′ ≤ conditionLimit size →
     Kempt size threads mutexes′ conditions′ run tables
-counts-grow k mutexes′ conditions′ more most more-c most-c =
+counts-grow {threads = threads} k mutexes′ conditions′ more most more-c most-c =
     let y = k .tidy in
     record {
       sizes = k .sizes;
@@ -209,9 +306,7 @@ counts-grow k mutexes′ conditions′ more most more-c most-c =
                   not-made = old .not-made;
                   is-made = old .is-made;
                   only-run = old .only-run;
-                  for-mutex = λ m hm e. let was = old .for-mutex m hm e in (omega (arith, was .0), was .1);
-                  for-condition = λ c hc e. omega (arith, old .for-condition c hc e);
-                  for-end = old .for-end;
+                  awaited = awaited-more (old .awaited) threads mutexes′ conditions′ (omega arith) more more-c;
                   kept = old .kept;
                 };
             runner = y .runner;

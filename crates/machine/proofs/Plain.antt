@@ -79,17 +79,20 @@ module _ (size : ℕ) (r : Registers) (tables : Tables) (t : ℕ) where
         not-made = λ h. standing e (λ a b. b) (λ a b c. omega arith) (λ a b. omega arith) (λ a b c. omega arith);
         is-made = λ h. standing e (λ a b. omega arith) (λ a b c. omega arith) (λ a b. omega arith) (λ a b c. omega arith);
         only-run = λ h. standing e (λ a b. omega arith) (λ a b c. a) (λ a b. omega arith) (λ a b c. omega arith);
-        for-mutex = λ m h q.
-            let k : place - 4 ≡ m = omega arith in
-            let w = and-true (ltb m (r .mutexes)) _ (rw (lt-ltb place (4 + 2 * size) (omega arith), k) at (waiting (omega arith))) in
-            (ltb-true _ _ (w .0), eqb-false _ _ (not-true _ (w .1)));
-        for-condition = λ c h q.
-            let k : place - (4 + 2 * size) ≡ c = omega arith in
-            ltb-true c (r .conditions) (rw (le-ltb place (4 + 2 * size) (omega arith), lt-ltb place (4 + 4 * size) (omega arith), k) at (waiting (omega arith)));
-        for-end = λ u q.
-            let k : place - (4 + 4 * size) ≡ u = omega arith in
-            let w = and-true (ltb u (r .threads)) _ (rw (le-ltb place (4 + 2 * size) (omega arith), le-ltb place (4 + 4 * size) (omega arith), k) at (waiting (omega arith))) in
-            (ltb-true _ _ (w .0), eqb-false _ _ (not-true _ (w .1)));
+        awaited =
+            record {
+              for-mutex = λ m h q.
+                  let k : place - 4 ≡ m = omega arith in
+                  let w = and-true (ltb m (r .mutexes)) _ (rw (lt-ltb place (4 + 2 * size) (omega arith), k) at (waiting (omega arith))) in
+                  (ltb-true _ _ (w .0), eqb-false _ _ (not-true _ (w .1)));
+              for-condition = λ c h q.
+                  let k : place - (4 + 2 * size) ≡ c = omega arith in
+                  ltb-true c (r .conditions) (rw (le-ltb place (4 + 2 * size) (omega arith), lt-ltb place (4 + 4 * size) (omega arith), k) at (waiting (omega arith)));
+              for-end = λ u q.
+                  let k : place - (4 + 4 * size) ≡ u = omega arith in
+                  let w = and-true (ltb u (r .threads)) _ (rw (le-ltb place (4 + 2 * size) (omega arith), le-ltb place (4 + 4 * size) (omega arith), k) at (waiting (omega arith))) in
+                  (ltb-true _ _ (w .0), eqb-false _ _ (not-true _ (w .1)));
+            };
         kept = λ h. plain-frame _ _ _ (and-first (savedFits tables t) _ (queues h));
       }
     where
@@ -103,11 +106,11 @@ module _ (size : ℕ) (r : Registers) (tables : Tables) (t : ℕ) where
   test-wait : Placed size (r .threads) (r .mutexes) (r .conditions) (r .thread) tables t → 4 ≤ place → waitFits size r tables place ≡ true
   test-wait p h =
       true-cond (ltb place (4 + 2 * size)) _ _
-      (λ a. let w = p .for-mutex (place - 4) (omega tests) (omega arith) in
+      (λ a. let w = p .awaited .for-mutex (place - 4) (omega tests) (omega arith) in
       true-and _ _ (lt-ltb _ _ (w .0)) (true-not _ (ne-eqb _ _ (w .1))))
       (λ a. true-cond (ltb place (4 + 4 * size)) _ _
-      (λ b. lt-ltb _ _ (p .for-condition (place - (4 + 2 * size)) (omega tests) (omega tests)))
-      (λ b. let w = p .for-end (place - (4 + 4 * size)) (omega tests) in
+      (λ b. lt-ltb _ _ (p .awaited .for-condition (place - (4 + 2 * size)) (omega tests) (omega tests)))
+      (λ b. let w = p .awaited .for-end (place - (4 + 4 * size)) (omega tests) in
       true-and _ _ (lt-ltb _ _ (w .0)) (true-not _ (ne-eqb _ _ (w .1)))))
 
   -- and a thread whose place reads plainly passes the test

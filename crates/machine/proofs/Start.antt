@@ -12,8 +12,8 @@ use Rattle.machine.specs.Size.{mutexLimit, shared}
 use Rattle.machine.specs.State.{start, startTables}
 use Rattle.machine.specs.Tables.{active, atMutex, ownerOf, placeOf, unmade}
 use Rattle.machine.proofs.Booked.{Booked}
-use Rattle.machine.proofs.Lists.{count-past, count-up-to, length-up-to, same-or-not}
-use Rattle.machine.proofs.Moves.{Kempt}
+use Rattle.machine.proofs.Lists.{count-past, count-up-to, length-up-to, less-or-not, same-or-not}
+use Rattle.machine.proofs.Moves.{Kempt, awaited-low}
 use Rattle.machine.proofs.Queues.{no-queue}
 use Rattle.machine.proofs.Steady.{Right, active-right}
 
@@ -59,9 +59,7 @@ module _ (size : ℕ) (some : 1 ≤ size) where
                     not-made = λ k. elsewhere t (λ e. omega arith);
                     is-made = λ k. let first : t ≡ 0 = omega arith in rw first (lit≤ tt);
                     only-run = λ e. same-or-not t 0 (λ k. k) (λ k. absurd (omega (arith, elsewhere t k, e)));
-                    for-mutex = λ m hm e. absurd (low t _ (omega arith) e);
-                    for-condition = λ c hc e. absurd (low t _ (omega arith) e);
-                    for-end = λ u e. absurd (low t _ (omega arith) e);
+                    awaited = awaited-low (placeOf (startTables size) t) (less-or-not (placeOf (startTables size) t) 4 (λ k. omega arith) (λ k. absurd (low t _ (omega arith) refl)));
                     kept = λ k. same-or-not t 0 (λ e. absurd (let mine : placeOf (startTables size) t ≡ active = ap (placeOf (startTables size)) e in omega (arith, mine, k))) (λ e. absurd (omega (arith, elsewhere t e, k)));
                   };
               runner = λ h. (lit≤ tt, refl);

@@ -6,18 +6,19 @@ use mathlib.Core.List.{List, [], _∷_}
 use mathlib.Core.Logic.{_≢_}
 use native.Mathlib.Omega.{arith}
 use lib.IntN.{ℤ}
-use lib.ListN.{length, getD, length-set}
+use lib.ListN.{length, length-set}
 use borrow.Author.Tests.{eqb-false, ltb-true, ltb-false}
 use Rattle.machine.specs.Book.{Book, fed}
 use Rattle.machine.specs.Book as event
-use Rattle.machine.specs.Plain.{Fault, Frame, Mode}
+use Rattle.machine.specs.Plain.{Awaited, Fault, Frame, Mode, SavedFrame}
 use Rattle.machine.specs.Registers.{halted, nobody, running, stuck, withState}
 use Rattle.machine.specs.Size.{conditionLimit, mutexLimit, shared, storeSize, valuesSize}
 use Rattle.machine.specs.State.{State, blocked, ends, finished, left, next, nextOf, withRegs, withTables}
-use Rattle.machine.specs.Tables.{Tables, anyLive, atCondition, atEnd, atMutex, ended, first, lives, ownerOf, ownsAny, placeOf, queue, ready, saved, sent, unlocked}
+use Rattle.machine.specs.Tables.{Tables, anyLive, atCondition, atEnd, atMutex, first, lives, ownerOf, ownsAny, placeOf, queue, ready, saved, sent, unlocked}
 use Rattle.machine.proofs.Booked.{entry}
 use Rattle.machine.proofs.Changes.{Both, gives, head-below, leaves, nobody-at, saves, starts, stops, waits, wakes-all}
 use Rattle.machine.proofs.Every.{some-false, some-true}
+use Rattle.machine.proofs.Moves.{awaited-condition, awaited-same}
 use Rattle.machine.proofs.Queues.{first-at, first-nobody, first-waiter, saved-depth, saved-frame, saved-owners, saved-pc, saved-places, sent-owner, woken-owner}
 
 -- the tables and the book, the registers' ranges, and the sizes of what is lent
@@ -165,7 +166,7 @@ module _ (size : ℕ) (s : State) (book : Book) (y : Runs size s book) where
   unfolding kept
   saved-both = saves (y .steady .both) (s .regs .thread) (s .regs .pc) (s .regs .cells) (s .regs .fp) below (y .steady .frame)
 
-  saved-here : Frame (getD (kept .pcs) (s .regs .thread) 0) (getD (kept .depths) (s .regs .thread) 0) (getD (kept .frames) (s .regs .thread) 0)
+  saved-here : SavedFrame kept (s .regs .thread)
   unfolding kept
   saved-here =
       let z = y .steady .both .kempt .sizes in
@@ -197,13 +198,13 @@ module _ (size : ℕ) (s : State) (book : Book) (y : Runs size s book) where
         valued = y .steady .valued;
       }
 
+  -- what a place asks where a thread waits there
+  abbrev pub Waits : ℕ → Type 0
+  Waits p = Awaited size (s .regs .threads) (s .regs .mutexes) (s .regs .conditions) (s .tables) p
+
   -- the thread leaves for a place that is no mutex's
-  pub left-steady : (p : ℕ) → ready ≤ p → ((m : ℕ) → m < mutexLimit size → p ≢ atMutex m) →
-      ((c : ℕ) → c < conditionLimit size → p ≡ atCondition size c → c < s .regs .conditions) →
-      ((u : ℕ) → p ≡ atEnd size u → (u < s .regs .threads) × (placeOf (s .tables) u ≢ ended)) →
-      Steady size (left size s p) book
-  left-steady p high no-mutex condition end =
-      gone-on p book (leaves saved-both p (y .some) high no-mutex condition (λ u e. (end u e .0, rw same-places (end u e .1))) saved-here)
+  pub left-steady : (p : ℕ) → ready ≤ p → ((m : ℕ) → m < mutexLimit size → p ≢ atMutex m) → Waits p → Steady size (left size s p) book
+  left-steady p high no-mutex w = gone-on p book (leaves saved-both p (y .some) high no-mutex (awaited-same w kept same-places same-owners) saved-here)
 
   pub left-marked : (p : ℕ) → Marked (left size s p)
   unfolding left
@@ -214,12 +215,8 @@ module _ (size : ℕ) (s : State) (book : Book) (y : Runs size s book) where
   left-none p = refl
 
   -- "wait in its queue, then Next", for ready, a condition or a thread's end
-  pub blocked-right : (p : ℕ) → ready ≤ p → ((m : ℕ) → m < mutexLimit size → p ≢ atMutex m) →
-      ((c : ℕ) → c < conditionLimit size → p ≡ atCondition size c → c < s .regs .conditions) →
-      ((u : ℕ) → p ≡ atEnd size u → (u < s .regs .threads) × (placeOf (s .tables) u ≢ ended)) →
-      Landed size (blocked size s p) book
-  blocked-right p high no-mutex condition end =
-      next-right size (left size s p) book (left-steady p high no-mutex condition end) (left-marked p) (left-none p)
+  pub blocked-right : (p : ℕ) → ready ≤ p → ((m : ℕ) → m < mutexLimit size → p ≢ atMutex m) → Waits p → Landed size (blocked size s p) book
+  blocked-right p high no-mutex w = next-right size (left size s p) book (left-steady p high no-mutex w) (left-marked p) (left-none p)
 
   -- for a mutex, which feeds the book
   pub lock-blocked : (m : ℕ) → m < s .regs .mutexes → ownerOf (s .tables) m ≢ size →
@@ -257,10 +254,7 @@ module _ (size : ℕ) (s : State) (book : Book) (y : Runs size s book) where
   unfolding left kept
   wait-right c m made-c made-m held =
       let limit : c < conditionLimit size = omega (arith, y .steady .both .kempt .tidy .counts .conditions-fit) in
-      let u =
-      left-steady (atCondition size c) (omega arith) (λ k h e. omega (arith, e))
-      (λ k h e. let same : c ≡ k = omega (arith, e) in rw (← same) made-c)
-      (λ k e. absurd (omega (arith, e, limit))) in
+      let u = left-steady (atCondition size c) (omega arith) (λ k h e. omega (arith, e)) (awaited-condition c limit made-c) in
       let owner = sent-owner kept (s .regs .thread) (atCondition size c) m in
       let still-held : ownerOf (sent kept (s .regs .thread) (atCondition size c)) m ≢ size = rw (owner, same-owners) held in
       next-right size _ (fed book (entry (s .regs .thread) (event.unlocks m)))

@@ -19,6 +19,10 @@ pub record Frame (pc cells fp : ℕ) : Type 0 where
   pub fp-least : 2 ≤ fp
   pub fp-most : fp ≤ 127
 
+-- the same of what is saved of a thread
+abbrev pub SavedFrame : Tables → ℕ → Type 0
+SavedFrame tables t = Frame (getD (tables .pcs) t 0) (getD (tables .depths) t 0) (getD (tables .frames) t 0)
+
 -- "counts in range": threads, mutexes and conditions made
 pub record Counts (size threads mutexes conditions : ℕ) : Type 0 where
   pub some-thread : 1 ≤ threads
@@ -31,6 +35,14 @@ pub record Line (size : ℕ) (line : List ℕ) : Type 0 where
   pub once : (t : ℕ) → t < size → count t line ≡ 1
   pub no-other : (t : ℕ) → size ≤ t → count t line ≡ 0
 
+-- what a place asks where a thread waits there, for so many threads, mutexes and conditions made
+pub record Awaited (size threads mutexes conditions : ℕ) (tables : Tables) (place : ℕ) : Type 0 where
+  -- free mutexes, and what isn't made yet, have no waiters
+  pub for-mutex : (m : ℕ) → m < mutexLimit size → place ≡ atMutex m → (m < mutexes) × (ownerOf tables m ≢ size)
+  pub for-condition : (c : ℕ) → c < conditionLimit size → place ≡ atCondition size c → c < conditions
+  -- ended threads have no waiters
+  pub for-end : (u : ℕ) → place ≡ atEnd size u → (u < threads) × (placeOf tables u ≢ ended)
+
 -- one thread's place, for so many threads, mutexes and conditions made and the thread that runs
 pub record Placed (size threads mutexes conditions run : ℕ) (tables : Tables) (t : ℕ) : Type 0 where
   -- unmade threads are in no place
@@ -38,13 +50,10 @@ pub record Placed (size threads mutexes conditions run : ℕ) (tables : Tables) 
   pub is-made : t < threads → unmade < placeOf tables t
   -- only the running thread is at the place of the running one
   pub only-run : placeOf tables t ≡ active → t ≡ run
-  -- free mutexes, and what isn't made yet, have no waiters
-  pub for-mutex : (m : ℕ) → m < mutexLimit size → placeOf tables t ≡ atMutex m → (m < mutexes) × (ownerOf tables m ≢ size)
-  pub for-condition : (c : ℕ) → c < conditionLimit size → placeOf tables t ≡ atCondition size c → c < conditions
-  -- ended threads have no waiters
-  pub for-end : (u : ℕ) → placeOf tables t ≡ atEnd size u → (u < threads) × (placeOf tables u ≢ ended)
+  -- a thread that waits, waits for what is made
+  pub awaited : Awaited size threads mutexes conditions tables (placeOf tables t)
   -- a thread that is ready or waits has its registers saved
-  pub kept : ready ≤ placeOf tables t → Frame (getD (tables .pcs) t 0) (getD (tables .depths) t 0) (getD (tables .frames) t 0)
+  pub kept : ready ≤ placeOf tables t → SavedFrame tables t
 
 -- the tables, for so many threads, mutexes and conditions made and the thread that runs, or the size where none does
 pub record Tidy (size threads mutexes conditions run : ℕ) (tables : Tables) : Type 0 where
