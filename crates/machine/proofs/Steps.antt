@@ -1,6 +1,6 @@
 -- A step, and a run, keep the machine right and the book beside it. Assumes nothing.
 use Prim.Native.Nat.{ℕ, zero, suc, _+_, _<_}
-use mathlib.Core.Path.{_≡_, refl}
+use mathlib.Core.Path.{_≡_, refl, sym, subst}
 use mathlib.Core.Bool.{true, cond}
 use mathlib.Core.List.{List, [], _∷_, _++_}
 use mathlib.Core.Logic.{_≢_}
@@ -19,6 +19,7 @@ use Rattle.machine.proofs.Every.{never}
 use Rattle.machine.proofs.Execution.{exec-right}
 use Rattle.machine.proofs.Lists.{cases}
 use Rattle.machine.proofs.Outcomes.{Ends}
+use Rattle.machine.proofs.Runs.{run-more, run-stopped}
 use Rattle.machine.proofs.Steady.{Landed, Marked, Right}
 use Rattle.machine.proofs.Targets.{Card}
 
@@ -136,12 +137,13 @@ book-append book [] b = refl
 book-append book (e ∷ a) b = book-append (fed book e) a b
 
 pub run-right : (size : ℕ) (words : List ℕ) → Card words → (s : State) (book : Book) → Right size s book → (m : ℕ) → After size book (run size words s m)
-unfolding run bookOf
-run-right size words card s book r zero = r
+run-right size words card s book r zero = unfold run bookOf in r
 run-right size words card s book r (suc m) =
     cases (isRunning (s .regs))
     (λ e.
-    let one = carried-right size words card s book r e in
-    let rest = run-right size words card (carried size words s .state) (bookOf book (carried size words s .trace)) one m in
-    rw (e, book-append book (carried size words s .trace) (run size words (carried size words s .state) m .trace)) rest)
-    (λ e. rw e r)
+    let one : Ran = carried size words s in
+    let more : Ran = run size words (one .state) m in
+    subst (After size book) (sym (run-more size words s m e))
+    (subst (Right size (more .state)) (sym (book-append book (one .trace) (more .trace)))
+    (run-right size words card (one .state) (bookOf book (one .trace)) (carried-right size words card s book r e) m)))
+    (λ e. subst (After size book) (sym (run-stopped size words s (suc m) e)) (unfold bookOf in r))

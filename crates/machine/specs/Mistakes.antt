@@ -8,7 +8,6 @@ use lib.IntN.{pos}
 use Rattle.machine.specs.Calls.{Called, runCall, setUp, stateOf}
 use Rattle.machine.specs.Runner.{lent}
 use Rattle.machine.specs.Sessions.{card, word}
-use Rattle.machine.specs.Size.{full}
 use Rattle.machine.specs.Tables.{Tables, atMutex, ownerOf, queue, ready}
 use Rattle.machine.specs.declared.answers.Answer.the-variants.{Faulted, Halted, Stuck}
 
@@ -65,9 +64,13 @@ broadcast = word 37 (pos 0)
 abbrev pub runIn : ℕ → List ℕ → ℕ → Called
 runIn size list m = runCall size (card list) m (setUp size (card list) (lent size) .box)
 
--- the tables that it leaves in the paper's box
+-- the box that these cards run in: none makes more than three threads, and a small box computes sooner than the paper's
+abbrev pub few : ℕ
+few = 3
+
+-- the tables that a run leaves
 abbrev pub tablesAfter : List ℕ → ℕ → Tables
-tablesAfter list m = stateOf full (runIn full list m .box) .tables
+tablesAfter list m = stateOf few (runIn few list m .box) .tables
 
 -- "Waking a condition's waiter straight past its lock: it must execute lock itself." Thread 1, from 12 on, locks the mutex and waits; thread 0 then
 -- locks it, signals and yields, and thread 1's own lock at 17 finds it owned.
@@ -123,13 +126,13 @@ pub record Excluded : Type 0 where
   -- thread 1 owns the mutex, and thread 0 waits for it
   pub retried-owner : ownerOf (tablesAfter retried 12) 0 ≡ 1
   pub retried-waits : queue (tablesAfter retried 12) (atMutex 0) ≡ 0 ∷ []
-  pub remembered-stuck : runIn full remembered 8 .answer ≡ Stuck
+  pub remembered-stuck : runIn few remembered 8 .answer ≡ Stuck
   -- both are ready, thread 1 first
   pub reversed-ready : queue (tablesAfter reversed 21) ready ≡ 1 ∷ 2 ∷ []
   pub untested-fault : runIn 1 untested 3 .answer ≡ Faulted 25 2
   -- the exit is faulted, and thread 1 still owns the mutex
-  pub measuring-fault : runIn full measuring 9 .answer ≡ Faulted 31 10
+  pub measuring-fault : runIn few measuring 9 .answer ≡ Faulted 31 10
   pub measuring-owner : ownerOf (tablesAfter measuring 9) 0 ≡ 1
-  pub called-returns : runIn full called 7 .answer ≡ Halted
-  pub emptied-fault : runIn full emptied 6 .answer ≡ Faulted 21 5
-  pub overdrawn-fault : runIn full overdrawn 4 .answer ≡ Faulted 26 3
+  pub called-returns : runIn few called 7 .answer ≡ Halted
+  pub emptied-fault : runIn few emptied 6 .answer ≡ Faulted 21 5
+  pub overdrawn-fault : runIn few overdrawn 4 .answer ≡ Faulted 26 3

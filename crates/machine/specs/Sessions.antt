@@ -11,10 +11,10 @@ use lib.Dec.{eqb}
 use lib.IntN.{ℤ, pos, negsuc}
 use lib.ListN.{getD}
 use Rattle.card.specs.Writing.{imageOf, wordsBytes}
-use Rattle.machine.specs.Calls.{Box, stateOf}
+use Rattle.machine.specs.Calls.{Box, Called, stateOf}
 use Rattle.machine.specs.Execution.{eqZ}
 use Rattle.machine.specs.Lists.{upTo}
-use Rattle.machine.specs.Runner.{judgedPart, runnerCall, runnerLine}
+use Rattle.machine.specs.Runner.{judgedPart, lineOf, runnerCall, runnerLine}
 use Rattle.machine.specs.Size.{full}
 use Rattle.machine.specs.Tables.{ended, placeOf}
 
@@ -162,11 +162,16 @@ agree test (x ∷ xs) (y ∷ ys) = test x y && agree test xs ys
 abbrev pub sameResult : Result → Result → Bool
 sameResult a b = eqb (a .thread) (b .thread) && eqZ (a .value) (b .value)
 
--- one row's test, in the paper's box: the line byte for byte, and the ended threads with their results
+-- one row's test, in the paper's box: the line byte for byte, and the ended threads with their results. The call is named once, so that it is
+-- computed once; its line is the one that the runner prints.
 abbrev pub passes : Session → Bool
 passes s =
-    agree eqb (runnerLine full (s .image)) (bytesOf (s .line))
-    && agree sameResult (resultsOf full (runnerCall full (judgedPart (s .image)) .box)) (s .results)
+    let called : Called = runnerCall full (judgedPart (s .image)) in
+    agree eqb (lineOf full called) (bytesOf (s .line)) && agree sameResult (resultsOf full (called .box)) (s .results)
+
+printed : (image : List ℕ) → lineOf full (runnerCall full (judgedPart image)) ≡ runnerLine full image
+unfolding runnerLine
+printed image = refl
 
 -- the test over all rows
 unfoldable pub all : List Session → Bool

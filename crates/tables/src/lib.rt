@@ -192,6 +192,7 @@ pub fn any_live(tables: &[usize], size: usize) -> bool
     false
 }
 
+// Whether a thread owns a mutex. All are looked at: those not made yet have no owner.
 pub fn owns_any(tables: &[usize], size: usize, t: Thread) -> bool
     requires { ⌜ Good size (now tables) ⌝ }
     ensures { λ r. ⌜ r ≡ ownsAny size (tablesOf size (now (tables .entry))) (t .0) ⌝ }
