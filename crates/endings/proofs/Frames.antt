@@ -1,20 +1,15 @@
--- Laws of return: what it does by the two cells of a frame; and of an instruction that ends its thread. Assumes nothing.
+-- Laws of return: what it does by the two cells of a frame; and of a thread's end. Assumes nothing.
 use Prim.Native.Nat.{ℕ, zero, suc, _-_, _<_, _≤_}
-use mathlib.Core.Path.{_≡_, refl, _∙_}
+use mathlib.Core.Path.{_≡_, refl}
 use mathlib.Core.Bool.{Bool, true, false, cond, _&&_}
 use native.Mathlib.Omega.{arith}
 use lib.Dec.{leb, ltb}
 use lib.IntN.{ℤ, pos, negsuc}
 use borrow.Author.Tests.{le-leb, le-ltb, lt-leb, lt-ltb, ne-eqb}
-use Rattle.machine.proofs.Equations.{carries, faults}
-use Rattle.machine.proofs.Lists.{cases}
-use Rattle.machine.specs.Execution.{Outcome, done, ending, exec, fault, frame, returned, returning, within}
-use Rattle.machine.specs.Instructions.{Instruction}
-use Rattle.machine.specs.Registers.{stopped}
-use Rattle.machine.specs.State.{State, cell, ends, withRegs}
-use Rattle.machine.specs.Step.{onward}
+use Rattle.machine.specs.Execution.{Outcome, done, ending, fault, frame, returned, returning, within}
+use Rattle.machine.specs.State.{State, cell, ends}
 use Rattle.machine.specs.Tables.{ownsAny}
-use Rattle.cells.specs.Contract.{after, indexOf}
+use Rattle.cells.specs.Contract.{indexOf}
 use Rattle.cells.specs.declared.index.Index.the-variants.{In, Out}
 use Rattle.cells.proofs.Tests.{in-below, in-value}
 
@@ -52,10 +47,9 @@ module _ (size n : ℕ) (s : State) where
   unfolding frame
   frame-in z a e h = rw (in-value z (s .regs .fp) a e, le-leb 2 a h, lt-ltb a (s .regs .fp) (in-below z (s .regs .fp) a e))
 
--- an instruction that ends its thread stops with 31, or leaves the state after the end
-pub after-ending : (size n : ℕ) (s : State) (i : Instruction) (v : ℤ) → exec size n (onward s) i ≡ ending size (onward s) v →
-    cond (ownsAny size (s .tables) (s .regs .thread)) (withRegs s (stopped (s .regs) 31)) (ends size (onward s) v) ≡ after size n s i
-after-ending size n s i v e =
-    cases (ownsAny size (s .tables) (s .regs .thread))
-    (λ b. rw b (faults size n s i 31 (e ∙ rw b)))
-    (λ b. rw b (carries size n s i (ends size (onward s) v) (e ∙ rw b)))
+-- the end of a thread that owns a mutex, and of one that doesn't
+pub ending-owned : (size : ℕ) (s : State) (v : ℤ) → ownsAny size (s .tables) (s .regs .thread) ≡ true → ending size s v ≡ fault 31
+ending-owned size s v e = rw e
+
+pub ending-free : (size : ℕ) (s : State) (v : ℤ) → ownsAny size (s .tables) (s .regs .thread) ≡ false → ending size s v ≡ done (ends size s v)
+ending-free size s v e = rw e

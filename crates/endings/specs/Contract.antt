@@ -1,13 +1,11 @@
 -- What the functions on a thread's end promise.
 use Prim.Native.Nat.{ℕ}
-use mathlib.Core.Bool.{cond}
 use mathlib.Core.List.{List}
 use mathlib.Core.Path.{_≡_}
 use lib.IntN.{ℤ}
 use Rattle.machine.specs.Instructions.{Instruction}
-use Rattle.machine.specs.Registers.{advanced, stopped}
 use Rattle.machine.specs.State.{ends}
-use Rattle.machine.specs.Tables.{ownsAny, tablesOf}
+use Rattle.machine.specs.Tables.{tablesOf}
 use Rattle.machine.specs.declared.registers.Registers.{Registers}
 use Rattle.cells.specs.Contract.{after, at}
 
@@ -15,14 +13,6 @@ use Rattle.cells.specs.Contract.{after, at}
 abbrev pub Ends : ℕ → ℤ → List ℕ → List ℤ → Registers → List ℕ → List ℤ → Registers → Type 0
 Ends size v tables values r tables′ values′ q =
     (store : List ℤ) → at store (tablesOf size tables′) values′ q ≡ ends size (at store (tablesOf size tables) values r) v
-
--- the same, with PC at the instruction that ends it; or 31, where it owns a mutex: the machine is stopped, and nothing else has changed
-abbrev pub MayEnd : ℕ → ℤ → List ℕ → List ℤ → Registers → List ℕ → List ℤ → Registers → Type 0
-MayEnd size v tables values r tables′ values′ q =
-    (store : List ℤ) →
-    at store (tablesOf size tables′) values′ q
-    ≡ cond (ownsAny size (tablesOf size tables) (r .thread)) (at store (tablesOf size tables) values (stopped r 31))
-    (ends size (at store (tablesOf size tables) values (advanced r)) v)
 
 -- an instruction does what the definitions say, values and all, for every card
 abbrev pub Changes : ℕ → Instruction → List ℤ → List ℕ → List ℤ → Registers → List ℤ → List ℕ → List ℤ → Registers → Type 0

@@ -6,7 +6,7 @@ ghost use Rattle.machine.specs.Instructions.{exit, finalize, join};
 ghost use Rattle.machine.specs.Tables.{atEnd};
 ghost use Rattle.cells.specs.Contract.{Able, Acts, Made};
 ghost use Rattle.tables.specs.Good.{Good};
-ghost use Rattle.endings.specs.Contract.{Changes, Ends, MayEnd};
+ghost use Rattle.endings.specs.Contract.{Changes, Ends};
 use machine::Registers;
 use machine::Thread;
 use threads::AThread;
@@ -27,7 +27,13 @@ fn queue_of(size: usize, t: Thread) -> usize
 }
 
 // The running thread ends with a result, and the next one runs.
-fn finish(tables: &mut [usize], values: &mut [i32], size: usize, r: Registers, v: i32) -> Registers
+pub fn finish(
+    tables: &mut [usize],
+    values: &mut [i32],
+    size: usize,
+    r: Registers,
+    v: i32,
+) -> Registers
     requires { ⌜ Good size (now tables) ⌝ }
     requires { ⌜ length (now values) ≡ size ⌝ }
     requires { ⌜ r .thread < size ⌝ }
@@ -40,26 +46,7 @@ fn finish(tables: &mut [usize], values: &mut [i32], size: usize, r: Registers, v
     next(tables, size, r.with_state(r.state, size))
 }
 
-// Ends the running thread, unless it owns a mutex: nobody could unlock it then.
-pub fn end_with(
-    tables: &mut [usize],
-    values: &mut [i32],
-    size: usize,
-    r: Registers,
-    v: i32,
-) -> Registers
-    requires { ⌜ Good size (now tables) ⌝ }
-    requires { ⌜ length (now values) ≡ size ⌝ }
-    requires { ⌜ r .thread < size ⌝ }
-    requires { ⌜ r .pc < 4096 ⌝ }
-    ensures { λ q. ⌜ MayEnd size v (now (tables .entry)) (now (values .entry)) r (now (tables .exit)) (now (values .exit)) q ⌝ }
-{
-    if tables::owns_any(tables, size, Thread(r.thread)) {
-        return r.stop(31);
-    }
-    finish(tables, values, size, r.advance(), v)
-}
-
+// A thread that owns a mutex can't end: nobody could unlock it then.
 pub fn exit(
     store: &[i32],
     tables: &mut [usize],
@@ -76,8 +63,11 @@ pub fn exit(
     if cells < 1 {
         return r.stop(21);
     }
+    if tables::owns_any(tables, size, Thread(r.thread)) {
+        return r.stop(31);
+    }
     let top = cells::peek(store, size, r.thread, cells - 1);
-    end_with(tables, values, size, r, top)
+    finish(tables, values, size, r.advance(), top)
 }
 
 pub fn join(store: &[i32], tables: &mut [usize], size: usize, r: Registers) -> Registers

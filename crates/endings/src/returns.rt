@@ -5,9 +5,10 @@ ghost use Rattle.machine.specs.Instructions.{return};
 ghost use Rattle.cells.specs.Contract.{Able};
 ghost use Rattle.tables.specs.Good.{Good};
 ghost use Rattle.endings.specs.Contract.{ChangesIn};
-use crate::ends::end_with;
+use crate::ends::finish;
 use cells::Index;
 use machine::Registers;
+use machine::Thread;
 
 pub fn return_from(
     store: &[i32],
@@ -28,8 +29,11 @@ pub fn return_from(
     }
     let caller = cells::peek(store, size, r.thread, fp - 1);
     if caller == -1 {
+        if tables::owns_any(tables, size, Thread(r.thread)) {
+            return r.stop(31);
+        }
         let v = cells::peek(store, size, r.thread, fp - 2);
-        return end_with(tables, values, size, r, v);
+        return finish(tables, values, size, r.advance(), v);
     }
     let Index::In(old) = cells::checked(caller, fp) else {
         return r.stop(26);

@@ -1,13 +1,13 @@
 -- `endings::ends::exit` meets its contract. Assumes nothing.
-use mathlib.Core.Path.{_∙_}
+use mathlib.Core.Path.{sym, _∙_}
 use native.Mathlib.Omega.{arith}
 use borrow.Author.Needs.{sfits-of, needs}
 use denote.Ref.{now}
 use mir.Syntax.{w32}
 use mir.Facts.{toZ-ofZ}
-use Rattle.machine.proofs.Equations.{exit-is, faults}
+use Rattle.machine.proofs.Equations.{carries, exit-is, faults}
 use Rattle.cells.proofs.Tests.{needs-less, needs-met}
-use Rattle.endings.proofs.Frames.{after-ending}
+use Rattle.endings.proofs.Frames.{ending-free, ending-owned}
 use Rattle.endings.proofs.ends.exit.Statement.{statement}
 use Rattle.endings.proofs.ends.exit.Tie as tie
 
@@ -17,22 +17,39 @@ stop-requires c κs = search needs
 returns : tie.Need-returns
 returns c n = rw (c .stop .ensures) (faults _ n _ _ 21 (exit-is _ n _ ∙ needs-less 1 _ _ (omega arith)))
 
-peek-requires : tie.Need-peek-requires
-peek-requires c κs = search needs
+owns-any-requires : tie.Need-owns-any-requires
+owns-any-requires c κs = search needs
 
-end-with-requires : tie.Need-end-with-requires
-end-with-requires c κs = search needs
+stop-requires-2 : tie.Need-stop-requires-2
+stop-requires-2 c κs = search needs
 
 same-length : tie.Need-same-length
 same-length c = search needs
 
+returns-2 : tie.Need-returns-2
+returns-2 c n =
+    rw (c .stop2 .ensures)
+    (faults _ n _ _ 31 (exit-is _ n _ ∙ needs-met 1 _ _ (omega arith) ∙ ending-owned _ _ _ (sym (c .before .before .owns-any .ensures) ∙ c .before .if2 .taken)))
+
+peek-requires : tie.Need-peek-requires
+peek-requires c κs = search needs
+
+advance-requires : tie.Need-advance-requires
+advance-requires c κs = search needs
+
+finish-requires : tie.Need-finish-requires
+finish-requires c κs = rw (c .advance .ensures) (c .before .before .before .before .before .before .before .before .before .pre .1 .0, (c .before .before .before .before .before .before .before .before .before .pre .1 .1, c .before .before .before .before .before .before .before .before .before .pre .0 .thread))
+
 same-length-2 : tie.Need-same-length-2
 same-length-2 c = search needs
 
-returns-2 : tie.Need-returns-2
-returns-2 c n =
-    rw (toZ-ofZ (sfits-of {w = w32} {z = c .before .before .before .before .before .before .peek .result} (c .before .before .before .before .before .before .peek .ok)), c .before .before .before .before .before .before .peek .ensures) at (c .before .before .before .end-with .ensures (now (c .before .before .before .before .before .before .before .before .before .args .store)))
-    ∙ after-ending _ n _ _ _ (exit-is _ n _ ∙ needs-met 1 _ _ (omega arith))
+same-length-3 : tie.Need-same-length-3
+same-length-3 c = search needs
+
+returns-3 : tie.Need-returns-3
+returns-3 c n =
+    rw (c .before .before .before .before .advance .ensures, toZ-ofZ (sfits-of {w = w32} {z = c .before .before .before .before .before .before .before .peek .result} (c .before .before .before .before .before .before .before .peek .ok)), c .before .before .before .before .before .before .before .peek .ensures) at (c .before .before .before .finish .ensures (now (c .before .before .before .before .before .before .before .before .before .before .before .before .before .args .store)))
+    ∙ carries _ n _ _ _ (exit-is _ n _ ∙ needs-met 1 _ _ (omega arith) ∙ ending-free _ _ _ (sym (c .before .before .before .before .before .before .before .before .before .owns-any .ensures) ∙ c .before .before .before .before .before .before .before .before .if2 .left))
 
 pub exit-spec : {M : Type 1} → statement M
 exit-spec =
@@ -40,8 +57,13 @@ exit-spec =
     (tie.spec
     stop-requires
     returns
-    peek-requires
-    end-with-requires
+    owns-any-requires
+    stop-requires-2
     same-length
+    returns-2
+    peek-requires
+    advance-requires
+    finish-requires
     same-length-2
-    returns-2)
+    same-length-3
+    returns-3)
