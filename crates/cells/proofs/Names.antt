@@ -1,6 +1,6 @@
 -- What follows from a number that was found on the stack. Assumes nothing.
 use Prim.Native.Nat.{ℕ, _-_, _<_, _≤_}
-use mathlib.Core.Path.{_≡_, refl, ap, _∙_}
+use mathlib.Core.Path.{_≡_, refl, ap, sym, _∙_}
 use mathlib.Core.Bool.{Bool, true, false, cond}
 use mathlib.Core.List.{List}
 use native.Mathlib.Omega.{arith}
@@ -70,3 +70,25 @@ module _ (size : ℕ) (store : List ℤ) (r : Registers) (at limit missing : ℕ
       by-cells : (b : Bool) → ltb (r .cells) at ≡ b → cond b (Fault 21) (named (indexOf cell limit) missing) ≡ Fault k → needs at (r .cells) (within cell limit missing f) ≡ fault k
       by-cells true h e = let same : 21 ≡ k = cc in needs-less at (r .cells) (within cell limit missing f) (ltb-true (r .cells) at h) ∙ ap fault same
       by-cells false h e = by-index (indexOf cell limit) refl (ltb-false (r .cells) at h) e
+
+-- an instruction with two numbers, top's looked at before the one below: what its tests come to, whatever it does then
+module _ (size : ℕ) (store : List ℤ) (r : Registers) (limit limit′ missing missing′ : ℕ) (f : ℕ → ℕ → Outcome) where
+  abbrev second : ℕ → Outcome
+  second a = within (cell size store r 2 limit′ missing′) limit′ missing′ (f a)
+
+  abbrev both : Outcome
+  both = needs 2 (r .cells) (within (cell size store r 1 limit missing) limit missing second)
+
+  pub top-missing : (k : ℕ) → 2 ≤ r .cells → numberAt size store r 1 limit missing ≡ Fault k → both ≡ fault k
+  top-missing k h e = needs-met 2 _ _ h ∙ sym (needs-met 1 _ _ (omega (arith, h))) ∙ stops size store r 1 limit missing k second e
+
+  top-there : (a : ℕ) → 2 ≤ r .cells → numberAt size store r 1 limit missing ≡ Number a → both ≡ second a
+  top-there a h e = needs-met 2 _ _ h ∙ within-in _ _ _ _ _ (passed size store r 1 limit missing a e .index)
+
+  pub below-missing : (a k : ℕ) → 2 ≤ r .cells → numberAt size store r 1 limit missing ≡ Number a → numberAt size store r 2 limit′ missing′ ≡ Fault k →
+      both ≡ fault k
+  below-missing a k h e g = top-there a h e ∙ sym (needs-met 2 _ _ h) ∙ stops size store r 2 limit′ missing′ k (f a) g
+
+  pub both-there : (a b : ℕ) → numberAt size store r 1 limit missing ≡ Number a → numberAt size store r 2 limit′ missing′ ≡ Number b → both ≡ f a b
+  both-there a b e g =
+      let there = passed size store r 2 limit′ missing′ b g in top-there a (there .enough) e ∙ within-in _ _ _ _ _ (there .index)

@@ -1,1 +1,1 @@
-pub mod Waking
+pub mod Laws

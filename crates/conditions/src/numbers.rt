@@ -2,8 +2,7 @@
 ghost use mathlib.Core.Path.{_≡_};
 ghost use lib.ListN.{length};
 ghost use Rattle.cells.specs.Contract.{Able};
-ghost use Rattle.cells.specs.Top.{numberAt};
-ghost use Rattle.conditions.specs.Numbers.{conditionNamed};
+ghost use Rattle.conditions.specs.Numbers.{conditionNamed, topCondition};
 use cells::Named;
 use machine::Condition;
 use machine::Registers;
@@ -16,7 +15,7 @@ pub enum ACondition {
 // The condition that top names.
 pub fn a_condition(store: &[i32], size: usize, r: Registers) -> ACondition
     requires { ⌜ Able size r (length (now store)) ⌝ }
-    ensures { λ c. ⌜ numberAt size (now (store .entry)) r 1 (r .conditions) 27 ≡ conditionNamed c ⌝ }
+    ensures { λ c. ⌜ topCondition size (now (store .entry)) r ≡ conditionNamed c ⌝ }
 {
     match cells::number_at(store, size, r, 1, r.conditions, 27) {
         Named::Number(c) => ACondition::Made(Condition(c)),

@@ -10,10 +10,15 @@ use Rattle.machine.specs.Registers.{advanced, withCells}
 use Rattle.machine.specs.Size.{mutexLimit, stackAt}
 use Rattle.machine.specs.State.{minusOne}
 use Rattle.machine.specs.declared.registers.Registers.{Registers}
+use Rattle.cells.specs.Top.{numberAt}
 use Rattle.cells.specs.declared.top.Named.{Named}
 use Rattle.cells.specs.declared.top.Named.the-variants.{Number, Fault}
 use Rattle.locks.specs.declared.numbers.AMutex.{AMutex}
 use Rattle.locks.specs.declared.numbers.AMutex.the-variants as mutex
+
+-- the mutex that the cell `at` from the top names: 27 where it is none of those made
+abbrev pub mutexAt : ℕ → List ℤ → Registers → ℕ → Named
+mutexAt size store r at = numberAt size store r at (r .mutexes) 27
 
 -- what a check found
 abbrev pub mutexNamed : AMutex → Named

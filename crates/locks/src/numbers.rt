@@ -3,8 +3,7 @@ ghost use Prim.Native.Nat.{_<_, _≤_};
 ghost use lib.ListN.{length};
 ghost use mathlib.Core.Path.{_≡_};
 ghost use Rattle.cells.specs.Contract.{Able};
-ghost use Rattle.cells.specs.Top.{numberAt};
-ghost use Rattle.locks.specs.Numbers.{Numbers, mutexNamed, nextNumber};
+ghost use Rattle.locks.specs.Numbers.{Numbers, mutexAt, mutexNamed, nextNumber};
 use cells::Named;
 use machine::Mutex;
 use machine::Registers;
@@ -18,7 +17,7 @@ pub enum AMutex {
 pub fn a_mutex(store: &[i32], size: usize, r: Registers, at: usize) -> AMutex
     requires { ⌜ Able size r (length (now store)) ⌝ }
     requires { ⌜ 1 ≤ at ⌝ }
-    ensures { λ m. ⌜ numberAt size (now (store .entry)) r at (r .mutexes) 27 ≡ mutexNamed m ⌝ }
+    ensures { λ m. ⌜ mutexAt size (now (store .entry)) r at ≡ mutexNamed m ⌝ }
 {
     match cells::number_at(store, size, r, at, r.mutexes, 27) {
         Named::Number(m) => AMutex::Made(Mutex(m)),

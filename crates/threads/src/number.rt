@@ -2,8 +2,7 @@
 ghost use mathlib.Core.Path.{_≡_};
 ghost use lib.ListN.{length};
 ghost use Rattle.cells.specs.Contract.{Able};
-ghost use Rattle.cells.specs.Top.{numberAt};
-ghost use Rattle.threads.specs.Contract.{threadNamed};
+ghost use Rattle.threads.specs.Contract.{threadNamed, topThread};
 use cells::Named;
 use machine::Registers;
 use machine::Thread;
@@ -16,7 +15,7 @@ pub enum AThread {
 // The thread that top names.
 pub fn a_thread(store: &[i32], size: usize, r: Registers) -> AThread
     requires { ⌜ Able size r (length (now store)) ⌝ }
-    ensures { λ t. ⌜ numberAt size (now (store .entry)) r 1 (r .threads) 27 ≡ threadNamed t ⌝ }
+    ensures { λ t. ⌜ topThread size (now (store .entry)) r ≡ threadNamed t ⌝ }
 {
     match cells::number_at(store, size, r, 1, r.threads, 27) {
         Named::Number(t) => AThread::Made(Thread(t)),

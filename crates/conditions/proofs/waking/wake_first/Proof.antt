@@ -1,8 +1,8 @@
--- `conditions::waiting::wake_first` meets its contract. Assumes nothing.
+-- `conditions::waking::wake_first` meets its contract. Assumes nothing.
 use borrow.Author.Needs.{needs}
-use Rattle.conditions.proofs.Waking.{woken}
-use Rattle.conditions.proofs.waiting.wake_first.Statement.{statement}
-use Rattle.conditions.proofs.waiting.wake_first.Tie as tie
+use Rattle.conditions.proofs.Laws.{woken}
+use Rattle.conditions.proofs.waking.wake_first.Statement.{statement}
+use Rattle.conditions.proofs.waking.wake_first.Tie as tie
 
 mul-dequeue : tie.Need-mul-dequeue
 mul-dequeue c = search needs
