@@ -206,12 +206,15 @@ static int read_card(const uint8_t *image, size_t len, int *globals, int *count,
         if (sp + cells > 127) \
             FAULT(22);        \
     } while (0)
-/* The value as a number of something of which so many were made. */
-#define NUMBER(value, made)                  \
-    do {                                     \
+/* The value as a number of something of which so many were made, or the fault. */
+#define NUMBER(value, made, no)                    \
+    do {                                           \
         if ((uint32_t)(value) >= (uint32_t)(made)) \
-            FAULT(27);                       \
+            FAULT(no);                             \
     } while (0)
+#define MUTEX(value) NUMBER(value, m->made_mutexes, 27)
+#define CONDITION(value) NUMBER(value, m->made_conds, 32)
+#define THREAD(value) NUMBER(value, m->made_threads, 33)
 #define COMPARE(operator)                \
     do {                                 \
         NEED(2);                         \
@@ -438,7 +441,7 @@ int64_t cma_run(const uint8_t *image, size_t len, uint64_t steps, struct engine_
             goto ending;
         case OP_JOIN:
             NEED(1);
-            NUMBER(s[sp], m->made_threads);
+            THREAD(s[sp]);
             if (!m->threads[s[sp]].ended) {
                 enqueue(m, &m->threads[s[sp]].joiners, t);
                 goto leave;
@@ -446,7 +449,7 @@ int64_t cma_run(const uint8_t *image, size_t len, uint64_t steps, struct engine_
             break;
         case OP_FINALIZE:
             NEED(1);
-            NUMBER(s[sp], m->made_threads);
+            THREAD(s[sp]);
             if (!m->threads[s[sp]].ended)
                 FAULT(29);
             s[sp] = m->threads[s[sp]].result;
@@ -455,7 +458,7 @@ int64_t cma_run(const uint8_t *image, size_t len, uint64_t steps, struct engine_
         case OP_LOCK: {
             struct mutex *mutex;
             NEED(1);
-            NUMBER(s[sp], m->made_mutexes);
+            MUTEX(s[sp]);
             mutex = &m->mutexes[s[sp--]];
             if (mutex->owner != NONE) {
                 enqueue(m, &mutex->waiters, t);
@@ -466,15 +469,15 @@ int64_t cma_run(const uint8_t *image, size_t len, uint64_t steps, struct engine_
         }
         case OP_UNLOCK:
             NEED(1);
-            NUMBER(s[sp], m->made_mutexes);
+            MUTEX(s[sp]);
             if (m->mutexes[s[sp]].owner != t)
                 FAULT(28);
             unlock(m, &m->mutexes[s[sp--]]);
             break;
         case OP_WAIT:
             NEED(2);
-            NUMBER(s[sp], m->made_conds);
-            NUMBER(s[sp - 1], m->made_mutexes);
+            CONDITION(s[sp]);
+            MUTEX(s[sp - 1]);
             if (m->mutexes[s[sp - 1]].owner != t)
                 FAULT(28);
             enqueue(m, &m->conds[s[sp--]], t);
@@ -483,7 +486,7 @@ int64_t cma_run(const uint8_t *image, size_t len, uint64_t steps, struct engine_
         case OP_SIGNAL: {
             int waiter;
             NEED(1);
-            NUMBER(s[sp], m->made_conds);
+            CONDITION(s[sp]);
             waiter = dequeue(m, &m->conds[s[sp--]]);
             if (waiter != NONE)
                 enqueue(m, &m->ready, waiter);
@@ -491,7 +494,7 @@ int64_t cma_run(const uint8_t *image, size_t len, uint64_t steps, struct engine_
         }
         case OP_BROADCAST:
             NEED(1);
-            NUMBER(s[sp], m->made_conds);
+            CONDITION(s[sp]);
             append(m, &m->ready, &m->conds[s[sp--]]);
             break;
 

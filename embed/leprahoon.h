@@ -47,7 +47,7 @@ enum {
     LEPRAHOON_HALTED,
     LEPRAHOON_RUNNING,
     LEPRAHOON_STUCK,
-    LEPRAHOON_FAULTED,    /* report[1] the fault's number, 20 to 31, report[2] the PC */
+    LEPRAHOON_FAULTED,    /* report[1] the fault's number, 20 to 33 (docs/NUMBERS.md), report[2] the PC */
     LEPRAHOON_REFUSED     /* report[1] the number, 1 to 7, report[2] the place; nothing was altered but the report (and, by set_up, the
                              registers, which are then all 0) */
 };

@@ -3,6 +3,7 @@
 mod asm;
 mod damage;
 mod limits;
+mod numbers;
 mod program;
 pub(crate) mod random;
 mod scenes;
@@ -25,6 +26,8 @@ pub enum Kind {
     Limit,
     /// One instruction at its edges.
     Edge,
+    /// A number that names something, or nothing.
+    Number,
     /// Random instructions.
     Soup,
     /// A damaged image.
@@ -33,14 +36,15 @@ pub enum Kind {
 
 impl Kind {
     /// All kinds, with how many cards of a hundred are of it.
-    pub const SHARES: [(usize, Kind); 7] = [
+    pub const SHARES: [(usize, Kind); 8] = [
         (22, Kind::Program),
         (20, Kind::Scene),
         (8, Kind::Changed),
         (12, Kind::Limit),
-        (14, Kind::Edge),
-        (12, Kind::Soup),
-        (12, Kind::Damaged),
+        (12, Kind::Edge),
+        (6, Kind::Number),
+        (10, Kind::Soup),
+        (10, Kind::Damaged),
     ];
 }
 
@@ -67,6 +71,7 @@ fn image(r: &mut Random, kind: Kind) -> Vec<u8> {
         }
         Kind::Limit => r.weighted(&limits::LIMITS)(r).image(),
         Kind::Edge => limits::edge(r).image(),
+        Kind::Number => numbers::numbers(r).image(),
         Kind::Soup => {
             let length = r.weighted(&[(2, 12), (5, 60), (3, 300)]);
             let n = r.range(1, length) as usize;

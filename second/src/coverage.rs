@@ -7,15 +7,15 @@ use std::fmt::Write as _;
 
 /// A card counts with its first steps only, so that the few endless ones don't drown the rest.
 const STEPS: u64 = 10_000;
-/// The faults are numbered 20 to 31.
-const FAULTS: std::ops::RangeInclusive<usize> = 20..=31;
+/// The faults are numbered 20 to 33.
+const FAULTS: std::ops::RangeInclusive<usize> = 20..=33;
 /// The columns: structured cards, cards at limits and edges, and the rest.
 const COLUMNS: [&str; 3] = ["structured", "limits", "soup+damaged"];
 
 fn column(kind: Kind) -> usize {
     match kind {
         Kind::Program | Kind::Scene | Kind::Changed => 0,
-        Kind::Limit | Kind::Edge => 1,
+        Kind::Limit | Kind::Edge | Kind::Number => 1,
         Kind::Soup | Kind::Damaged => 2,
     }
 }

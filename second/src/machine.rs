@@ -18,6 +18,13 @@ pub const MUTEXES: usize = 64;
 /// At most so many conditions are ever made.
 pub const CONDITIONS: usize = 64;
 
+/// The fault of a number that names no mutex.
+const NO_MUTEX: u8 = 27;
+/// The fault of a number that names no condition.
+const NO_CONDITION: u8 = 32;
+/// The fault of a number that names no thread.
+const NO_THREAD: u8 = 33;
+
 /// What a machine is; the numbers are those of the state line.
 #[derive(Clone, Copy, PartialEq, Eq, Debug)]
 pub enum State {
@@ -125,9 +132,9 @@ pub struct Condition {
     remembered: usize,
 }
 
-/// The paper's "Errors that look right", 1 to 5, and those that request Two invites, 6 to 9. A
-/// machine makes none of them unless it is told to; only the showing that the comparison can fail
-/// tells it to.
+/// The paper's "Errors that look right", 1 to 5, and those that requests Two and Three invite, 6 to
+/// 9 and 10 to 13. A machine makes none of them unless it is told to; only the showing that the
+/// comparison can fail tells it to.
 #[derive(Clone, Copy, PartialEq, Eq, Debug)]
 pub enum Mistake {
     /// 1. A condition's waiter is woken straight past its lock.
@@ -148,10 +155,18 @@ pub enum Mistake {
     JoinersWokenFirst,
     /// 9. A return to a caller gives fault 31 too.
     CallerReturnFaulted,
+    /// 10. A bad condition number gives fault 33, a bad thread number 32.
+    KindsSwapped,
+    /// 11. Wait looks at the mutex's number before the condition's.
+    WaitMutexFirst,
+    /// 12. A thread's number is checked against the mutexes made.
+    ThreadAmongMutexes,
+    /// 13. Fault 27 for all three kinds, as before request Three.
+    KindsNotTold,
 }
 
 impl Mistake {
-    pub const ALL: [Mistake; 9] = [
+    pub const ALL: [Mistake; 13] = [
         Mistake::WokenPastLock,
         Mistake::UnlockFrees,
         Mistake::SignalRemembered,
@@ -161,6 +176,10 @@ impl Mistake {
         Mistake::OnlyMutexZero,
         Mistake::JoinersWokenFirst,
         Mistake::CallerReturnFaulted,
+        Mistake::KindsSwapped,
+        Mistake::WaitMutexFirst,
+        Mistake::ThreadAmongMutexes,
+        Mistake::KindsNotTold,
     ];
 }
 
@@ -239,7 +258,7 @@ impl Machine {
             Err(number) => {
                 self.threads[t].pc = pc;
                 self.state = State::Faulted;
-                self.fault = number;
+                self.fault = self.told(number);
                 false
             }
         }
@@ -433,7 +452,8 @@ impl Machine {
             }
             Op::Join => {
                 me.has(1)?;
-                let other = number(me.top(), made)?;
+                let top = me.top();
+                let other = self.other_thread(top)?;
                 if self.threads[other].result.is_none() {
                     self.threads[other].joiners.push_back(t);
                     self.next();
@@ -441,7 +461,8 @@ impl Machine {
             }
             Op::Finalize => {
                 me.has(1)?;
-                let other = number(me.top(), made)?;
+                let top = me.top();
+                let other = self.other_thread(top)?;
                 let result = self.threads[other].result.ok_or(29)?;
                 self.threads[t].set_top(result);
             }
@@ -449,7 +470,7 @@ impl Machine {
             // Mutexes.
             Op::Lock => {
                 me.has(1)?;
-                let m = number(me.top(), self.mutexes.len())?;
+                let m = mutex_number(me.top(), &self.mutexes)?;
                 me.drop_top();
                 if self.mutexes[m].owner.is_none() {
                     self.mutexes[m].owner = Some(t);
@@ -465,7 +486,7 @@ impl Machine {
             }
             Op::Unlock => {
                 me.has(1)?;
-                let m = number(me.top(), self.mutexes.len())?;
+                let m = mutex_number(me.top(), &self.mutexes)?;
                 if self.mutexes[m].owner != Some(t) {
                     return Err(28);
                 }
@@ -476,8 +497,11 @@ impl Machine {
             // Conditions.
             Op::Wait => {
                 me.has(2)?;
-                let c = number(me.top(), self.conditions.len())?;
-                let m = number(me.below(), self.mutexes.len())?;
+                if self.mistake == Some(Mistake::WaitMutexFirst) {
+                    mutex_number(me.below(), &self.mutexes)?;
+                }
+                let c = condition_number(me.top(), &self.conditions)?;
+                let m = mutex_number(me.below(), &self.mutexes)?;
                 if self.mutexes[m].owner != Some(t) {
                     return Err(28);
                 }
@@ -495,7 +519,7 @@ impl Machine {
             }
             Op::Signal => {
                 me.has(1)?;
-                let c = number(me.top(), self.conditions.len())?;
+                let c = condition_number(me.top(), &self.conditions)?;
                 me.drop_top();
                 match self.conditions[c].waiters.pop_front() {
                     Some(waiter) => self.wake(waiter),
@@ -504,7 +528,7 @@ impl Machine {
             }
             Op::Broadcast => {
                 me.has(1)?;
-                let c = number(me.top(), self.conditions.len())?;
+                let c = condition_number(me.top(), &self.conditions)?;
                 me.drop_top();
                 let mut waiters = std::mem::take(&mut self.conditions[c].waiters);
                 if self.mistake == Some(Mistake::BroadcastReversed) {
@@ -516,6 +540,30 @@ impl Machine {
             }
         }
         Ok(())
+    }
+
+    /// The thread that join or finalize names, or fault 33.
+    fn other_thread(&self, value: i32) -> Result<usize, u8> {
+        if self.mistake != Some(Mistake::ThreadAmongMutexes) {
+            return thread_number(value, &self.threads);
+        }
+        let other = number(value, self.mutexes.len(), NO_THREAD)?;
+        // One that isn't made hasn't ended; the running one, which hasn't either, stands for it.
+        Ok(if other < self.threads.len() {
+            other
+        } else {
+            self.last
+        })
+    }
+
+    /// The number that is told of a fault: its own, but for two of the mistakes.
+    fn told(&self, fault: u8) -> u8 {
+        match (self.mistake, fault) {
+            (Some(Mistake::KindsSwapped), NO_CONDITION) => NO_THREAD,
+            (Some(Mistake::KindsSwapped), NO_THREAD) => NO_CONDITION,
+            (Some(Mistake::KindsNotTold), NO_CONDITION | NO_THREAD) => NO_MUTEX,
+            _ => fault,
+        }
     }
 
     /// Next: the first of the ready queue runs. With none ready the machine is halted if no thread
@@ -614,10 +662,26 @@ fn code_address(value: i32, n: usize) -> Result<usize, u8> {
     }
 }
 
-/// The number of something of which `made` were made, or fault 27.
-fn number(value: i32, made: usize) -> Result<usize, u8> {
+/// The number of a mutex made, or fault 27. This and the next two take their own table, so that no
+/// number is looked for in another.
+fn mutex_number(value: i32, mutexes: &[Mutex]) -> Result<usize, u8> {
+    number(value, mutexes.len(), NO_MUTEX)
+}
+
+/// The number of a condition made, or fault 32.
+fn condition_number(value: i32, conditions: &[Condition]) -> Result<usize, u8> {
+    number(value, conditions.len(), NO_CONDITION)
+}
+
+/// The number of a thread made, or fault 33.
+fn thread_number(value: i32, threads: &[Thread]) -> Result<usize, u8> {
+    number(value, threads.len(), NO_THREAD)
+}
+
+/// The number of something of which `made` were made, or the fault.
+fn number(value: i32, made: usize, fault: u8) -> Result<usize, u8> {
     if value < 0 || value as usize >= made {
-        Err(27)
+        Err(fault)
     } else {
         Ok(value as usize)
     }

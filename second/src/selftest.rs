@@ -44,24 +44,29 @@ pub fn search(seed: u64, count: u64, mistake: Mistake) -> Found {
     found
 }
 
-/// Does the image have the instruction that the mistake is about?
+/// Does the image have an instruction that the mistake is about?
 fn mentions(image: &[u8], mistake: Mistake) -> bool {
-    let op = match mistake {
-        Mistake::WokenPastLock | Mistake::SignalRemembered => Op::Wait,
-        Mistake::UnlockFrees => Op::Lock,
-        Mistake::BroadcastReversed => Op::Broadcast,
-        Mistake::CreateRoomFirst => Op::Create,
+    let ops: &[Op] = match mistake {
+        Mistake::WokenPastLock | Mistake::SignalRemembered | Mistake::WaitMutexFirst => &[Op::Wait],
+        Mistake::UnlockFrees => &[Op::Lock],
+        Mistake::BroadcastReversed => &[Op::Broadcast],
+        Mistake::CreateRoomFirst => &[Op::Create],
         // Without a lock nobody owns a mutex.
         Mistake::EndsOwning
         | Mistake::OnlyMutexZero
         | Mistake::JoinersWokenFirst
-        | Mistake::CallerReturnFaulted => Op::Lock,
+        | Mistake::CallerReturnFaulted => &[Op::Lock],
+        // Those that name a condition or a thread.
+        Mistake::KindsSwapped | Mistake::KindsNotTold => {
+            &[Op::Join, Op::Finalize, Op::Wait, Op::Signal, Op::Broadcast]
+        }
+        Mistake::ThreadAmongMutexes => &[Op::Join, Op::Finalize],
     };
     image
         .iter()
         .skip(9)
         .step_by(4)
-        .any(|&byte| byte == op as u8)
+        .any(|&byte| ops.iter().any(|&op| byte == op as u8))
 }
 
 fn states(image: &[u8], mistake: Option<Mistake>) -> Vec<String> {

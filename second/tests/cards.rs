@@ -5,7 +5,7 @@ use second::cards::{card, Kind};
 use second::machine::{read, Machine, Op, State};
 use second::selftest::selftest;
 use second::text::{read_frame, runner_line, write_frame};
-use std::collections::BTreeMap;
+use std::collections::{BTreeMap, BTreeSet};
 
 const SEED: u64 = 1;
 const COUNT: u64 = 3000;
@@ -26,7 +26,7 @@ fn the_same_again_and_good_unless_damaged() {
 #[test]
 fn all_instructions_and_faults_are_reached() {
     let mut carried_out = [false; Op::ALL.len()];
-    let mut faults = [false; 32];
+    let mut faults = [false; 34];
     let mut refusals = [false; 6];
     for index in 0..COUNT {
         let image = card(SEED, index).1;
@@ -124,6 +124,105 @@ fn threads_end_with_and_without_mutexes() {
     ];
     assert!(counts.keys().eq(all.iter()), "{counts:#?}");
     assert!(counts.values().all(|&count| count >= 3), "{counts:#?}");
+}
+
+/// Does a number name nothing, where so many are made?
+fn is_bad(number: i32, made: usize) -> bool {
+    number < 0 || number as usize >= made
+}
+
+/// Where a number stands, of so many made.
+fn place(number: i32, made: usize) -> &'static str {
+    match number {
+        i32::MIN => "the least",
+        i32::MAX => "the largest",
+        -1 => "-1",
+        _ if number as usize + 1 == made => "the last",
+        _ if number as usize == made => "the number made",
+        _ => "another",
+    }
+}
+
+/// What numbers the next instruction names a thread, mutex or condition by, if it does.
+fn named(machine: &Machine) -> Vec<String> {
+    let thread = &machine.threads[machine.last];
+    let Some(next) = machine.code.get(thread.pc) else {
+        return Vec::new();
+    };
+    let threads = machine.threads.len();
+    let (mutexes, conditions) = (machine.mutexes.len(), machine.conditions.len());
+    let whats = match (next.op, &thread.stack[..thread.cells]) {
+        (Op::Join | Op::Finalize, &[.., t]) => {
+            // A look into the mutexes' table would find another answer.
+            let only = match (is_bad(t, threads), is_bad(t, mutexes)) {
+                (false, true) => "a thread's only",
+                (true, false) => "a mutex's only",
+                _ => "of both or none",
+            };
+            vec![format!("thread {}", place(t, threads)), only.into()]
+        }
+        (Op::Lock | Op::Unlock, &[.., m]) => vec![format!("mutex {}", place(m, mutexes))],
+        (Op::Signal | Op::Broadcast, &[.., c]) => {
+            vec![format!("condition {}", place(c, conditions))]
+        }
+        (Op::Wait, &[.., m, c]) => {
+            let both = is_bad(m, mutexes) && is_bad(c, conditions);
+            vec![
+                format!("mutex {}", place(m, mutexes)),
+                format!("condition {}", place(c, conditions)),
+                if both { "both bad" } else { "one good" }.into(),
+            ]
+        }
+        _ => Vec::new(),
+    };
+    let name = next.op.name();
+    whats.iter().map(|what| format!("{name}: {what}")).collect()
+}
+
+#[test]
+fn each_number_is_met_on_both_sides() {
+    let mut met = BTreeSet::new();
+    for index in 0..COUNT {
+        if let Ok(card) = read(&card(SEED, index).1) {
+            let mut machine = Machine::new(&card);
+            for _ in 0..2000 {
+                met.extend(named(&machine));
+                if !machine.step() {
+                    break;
+                }
+            }
+        }
+    }
+    for place in [
+        "-1",
+        "the last",
+        "the number made",
+        "the least",
+        "the largest",
+    ] {
+        for what in [
+            "join: thread",
+            "finalize: thread",
+            "lock: mutex",
+            "unlock: mutex",
+            "wait: mutex",
+            "wait: condition",
+            "signal: condition",
+            "broadcast: condition",
+        ] {
+            let what = format!("{what} {place}");
+            assert!(met.contains(&what), "{what}");
+        }
+    }
+    for what in [
+        "join: a thread's only",
+        "join: a mutex's only",
+        "finalize: a thread's only",
+        "finalize: a mutex's only",
+        "wait: both bad",
+    ] {
+        assert!(met.contains(what), "{what}");
+    }
 }
 
 #[test]

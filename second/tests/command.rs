@@ -172,14 +172,14 @@ fn the_sessions_cards() {
 #[test]
 fn errors_have_their_numbers() {
     for (words, most) in [
-        (&["lines"][..], 9),
-        (&["trace", "9"], 9),
+        (&["lines"][..], 13),
+        (&["trace", "9"], 13),
         (&["listings"], 4),
         (&["imports"], 7),
         (&["retexts"], 0),
         (&["hex"], 0),
     ] {
-        for e in 0..=10 {
+        for e in 0..=14 {
             let number = e.to_string();
             let mut words = words.to_vec();
             words.extend(["--error", &number]);

@@ -2,7 +2,7 @@
 
 mod common;
 
-use common::{check, line, machine};
+use common::{check, image, line, machine};
 use second::machine::State;
 
 /// The greatest and the least number of 32 bits, as instructions that push it.
@@ -268,33 +268,232 @@ fn fault_26() {
     ]);
 }
 
+/// How many threads, mutexes and conditions are made: each kind is once the fewest, once in the
+/// middle and once the most, so that a number looked for in another table shows; then all tables
+/// are full.
+const MADE: [(usize, usize, usize); 4] = [(1, 2, 3), (2, 3, 1), (3, 1, 2), (32, 64, 64)];
+
+/// The start of a card that makes so many, thread 0 among them. The other threads do the card's
+/// last instruction once they run.
+fn made((threads, mutexes, conditions): (usize, usize, usize)) -> String {
+    let threads = "loadc @-1, loadc 0, create, pop, ".repeat(threads - 1);
+    let mutexes = "newmutex, pop, ".repeat(mutexes);
+    let conditions = "newcond, pop, ".repeat(conditions);
+    threads + &mutexes + &conditions
+}
+
+/// What pushes a number that none of so many has: one too few, one too many, and the two furthest.
+fn none_of(made: usize) -> [String; 4] {
+    ["loadc -1", &format!("loadc {made}"), MIN, MAX].map(String::from)
+}
+
+/// How many instructions a text has. Where nobody else runs and nothing jumps, this is also the PC
+/// behind it and the steps to there.
+fn length(text: &str) -> u64 {
+    (image(text).len() as u64 - 9) / 4
+}
+
+/// The card goes straight to `op`, which faults, and nothing but the state is another than before.
+fn faults(before: &str, op: &str, number: u8) {
+    let text = format!("{before}, {op}, return");
+    let pc = length(before);
+    assert_eq!(line(&text), format!("fault {number} 0 {pc} {pc}"), "{text}");
+    let mut m = machine(&text);
+    assert_eq!(m.run(pc), pc, "{text}");
+    let mut same = m.clone();
+    assert!(!m.step(), "{text}");
+    (same.state, same.fault) = (State::Faulted, number);
+    assert_eq!(format!("{m:?}"), format!("{same:?}"), "{text}");
+}
+
+/// The card goes on behind its instructions and halts there. The threads beside thread 0 don't run.
+fn goes_on(text: &str) {
+    let steps = length(text) + 1;
+    let text = format!("{text}, halt, return");
+    assert_eq!(line(&text), format!("halted {steps} -"), "{text}");
+}
+
 #[test]
 fn fault_27() {
+    for counts @ (threads, mutexes, conditions) in MADE {
+        let start = made(counts);
+        let condition = format!("loadc {}", conditions - 1);
+        for bad in none_of(mutexes) {
+            faults(&format!("{start} {bad}"), "lock", 27);
+            faults(&format!("{start} {bad}"), "unlock", 27);
+            faults(&format!("{start} {bad}, {condition}"), "wait", 27);
+        }
+        let last = format!("loadc {}", mutexes - 1);
+        let locked = format!("{start} {last}, lock");
+        goes_on(&locked);
+        goes_on(&format!("{locked}, {last}, unlock"));
+        // Each of the other threads ends, and thread 0 still waits.
+        let waiting = format!("{locked}, {last}, {condition}, wait");
+        let steps = length(&waiting) + threads as u64 - 1;
+        let text = format!("{waiting}, return");
+        assert_eq!(line(&text), format!("stuck {steps}"), "{text}");
+    }
+    // None is made: each number is bad.
+    for number in ["loadc -1", "loadc 0", "loadc 1", MIN, MAX] {
+        faults(number, "lock", 27);
+        faults(number, "unlock", 27);
+        faults(&format!("{number}, newcond"), "wait", 27);
+    }
+}
+
+#[test]
+fn fault_32() {
+    for counts @ (_, mutexes, conditions) in MADE {
+        let start = made(counts);
+        let mutex = format!("loadc {}", mutexes - 1);
+        for bad in none_of(conditions) {
+            faults(&format!("{start} {bad}"), "signal", 32);
+            faults(&format!("{start} {bad}"), "broadcast", 32);
+            let locked = format!("{start} {mutex}, lock");
+            faults(&format!("{locked}, {mutex}, {bad}"), "wait", 32);
+        }
+        // The last one made is good, also for wait: `fault_27` has that.
+        let last = format!("loadc {}", conditions - 1);
+        goes_on(&format!("{start} {last}, signal"));
+        goes_on(&format!("{start} {last}, broadcast"));
+    }
+    for number in ["loadc -1", "loadc 0", "loadc 1", MIN, MAX] {
+        faults(number, "signal", 32);
+        faults(number, "broadcast", 32);
+        faults(
+            &format!("newmutex, dup, lock, loadc 0, {number}"),
+            "wait",
+            32,
+        );
+    }
+}
+
+#[test]
+fn fault_33() {
+    for counts @ (threads, _, _) in MADE {
+        let start = made(counts);
+        for bad in none_of(threads) {
+            faults(&format!("{start} {bad}"), "join", 33);
+            faults(&format!("{start} {bad}"), "finalize", 33);
+        }
+        // The last one made is good. If it isn't thread 0 itself, all others run and end before
+        // thread 0 goes on: they are ready in the order of their numbers.
+        let others = threads as u64 - 1;
+        let joined = format!("{start} loadc {others}, join");
+        let steps = length(&joined);
+        let expected = match others {
+            0 => format!("stuck {steps}"),
+            _ => format!("halted {} -", steps + others + 1),
+        };
+        assert_eq!(line(&format!("{joined}, halt, return")), expected);
+        // Finalize takes it only when it has ended.
+        faults(&format!("{start} loadc {others}"), "finalize", 29);
+        if others > 0 {
+            let ended = format!("{start} yield, loadc {others}, finalize");
+            let steps = length(&ended) + others + 1;
+            let text = format!("{ended}, halt, return");
+            assert_eq!(line(&text), format!("halted {steps} -"));
+        }
+    }
+}
+
+#[test]
+fn a_number_that_was_not_given_is_bad() {
+    // What create, newmutex and newcond push when there is no more room names nothing.
+    let full = made((32, 64, 64));
+    faults(&format!("{full} newmutex"), "lock", 27);
+    faults(&format!("{full} newmutex"), "unlock", 27);
+    faults(&format!("{full} newcond"), "signal", 32);
+    faults(&format!("{full} newcond"), "broadcast", 32);
+    faults(&format!("{full} loadc 0, loadc 0, create"), "join", 33);
+    faults(&format!("{full} loadc 0, loadc 0, create"), "finalize", 33);
+    faults(&format!("{full} newmutex, loadc 63"), "wait", 27);
+    faults(&format!("{full} loadc 63, newcond"), "wait", 32);
+    faults(&format!("{full} newmutex, newcond"), "wait", 32);
+    // A thread that has ended is still named by its number.
     check(&[
-        ("newmutex, lock, halt", "halted 3 -"),
-        ("newmutex, pop, loadc 1, lock", "fault 27 0 3 3"),
-        ("newmutex, pop, loadc -1, lock", "fault 27 0 3 3"),
-        ("newcond, lock", "fault 27 0 1 1"),
-        ("newcond, unlock", "fault 27 0 1 1"),
-        ("newmutex, pop, loadc 1, unlock", "fault 27 0 3 3"),
-        ("newmutex, signal", "fault 27 0 1 1"),
-        ("newmutex, broadcast", "fault 27 0 1 1"),
-        ("newcond, signal, halt", "halted 3 -"),
-        ("newcond, broadcast, halt", "halted 3 -"),
-        ("loadc 1, join", "fault 27 0 1 1"),
-        ("loadc -1, join", "fault 27 0 1 1"),
-        ("loadc 1, finalize", "fault 27 0 1 1"),
-        ("loadc 32, join", "fault 27 0 1 1"),
-        // wait: no condition, no mutex; and 27 before 28.
         (
-            "newmutex, dup, lock, loadc 0, loadc 0, wait",
-            "fault 27 0 5 5",
+            "loadc 6, loadc 7, create, yield, join, exit, return",
+            "halted 7 1",
         ),
-        ("newcond, loadc 0, loadc 0, wait", "fault 27 0 3 3"),
-        ("newmutex, newcond, wait", "fault 28 0 2 2"),
-        ("newmutex, loadc 0, wait", "fault 27 0 2 2"),
-        ("newmutex, dup, lock, loadc 0, newcond, wait", "stuck 6"),
+        (
+            "loadc 7, loadc 7, create, yield, join, finalize, exit, return",
+            "halted 8 7",
+        ),
     ]);
+}
+
+#[test]
+fn another_thread_than_0_has_a_bad_number() {
+    check(&[
+        (
+            "loadc 4, loadc 0, create, yield, loadc 0, lock",
+            "fault 27 1 5 5",
+        ),
+        (
+            "loadc 4, loadc 0, create, yield, loadc 0, signal",
+            "fault 32 1 5 5",
+        ),
+        // Threads 0 and 1 are there, 2 isn't.
+        (
+            "loadc 4, loadc 0, create, yield, loadc 2, join",
+            "fault 33 1 5 5",
+        ),
+        (
+            "loadc 4, loadc 0, create, yield, loadc 1, finalize",
+            "fault 29 1 5 5",
+        ),
+    ]);
+}
+
+#[test]
+fn wait_looks_at_the_condition_then_the_mutex_then_the_owner() {
+    let both = made((1, 2, 3));
+    let owning = format!("{both} loadc 1, lock, ");
+    for condition in none_of(3) {
+        // 32 before 27, and before 28: mutex 1 isn't owned, or is.
+        for mutex in none_of(2) {
+            faults(&format!("{both} {mutex}, {condition}"), "wait", 32);
+            faults(&format!("{owning} {mutex}, {condition}"), "wait", 32);
+        }
+        faults(&format!("{both} loadc 1, {condition}"), "wait", 32);
+        faults(&format!("{owning} loadc 0, {condition}"), "wait", 32);
+    }
+    // 27 before 28: a mutex that isn't there has no owner.
+    for mutex in none_of(2) {
+        faults(&format!("{both} {mutex}, loadc 2"), "wait", 27);
+        faults(&format!("{owning} {mutex}, loadc 2"), "wait", 27);
+    }
+    faults(&format!("{both} loadc 1, loadc 2"), "wait", 28);
+    faults(&format!("{owning} loadc 0, loadc 2"), "wait", 28);
+    // Top is the condition, below it the mutex: 1 is good for one of the two only.
+    let (one, two) = (made((1, 1, 2)), made((1, 2, 1)));
+    faults(&format!("{one} loadc 1, loadc 0"), "wait", 27);
+    faults(&format!("{one} loadc 0, loadc 1"), "wait", 28);
+    faults(&format!("{two} loadc 1, loadc 0"), "wait", 28);
+    faults(&format!("{two} loadc 0, loadc 1"), "wait", 32);
+}
+
+#[test]
+fn fault_21_comes_before_a_bad_number() {
+    // All are made and thread 0 owns what it could wait with, or nothing is made.
+    let owning = made((2, 2, 2)) + "loadc 0, lock, loadc 1, lock, ";
+    for start in ["", &owning] {
+        for op in [
+            "join",
+            "finalize",
+            "lock",
+            "unlock",
+            "signal",
+            "broadcast",
+            "wait",
+        ] {
+            faults(&format!("{start} 3*pop"), op, 21);
+        }
+        for number in ["loadc -1", "loadc 0", "loadc 1", "loadc 2", MIN, MAX] {
+            faults(&format!("{start} 3*pop, {number}"), "wait", 21);
+        }
+    }
 }
 
 #[test]

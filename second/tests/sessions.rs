@@ -56,6 +56,13 @@ fn thirty_two_and_thirty_three_threads() {
     assert_eq!(machine_after(&create(30)).threads[0].result, Some(31));
     assert_eq!(machine_after(&create(31)).threads[0].result, Some(-1));
     assert_eq!(machine_after(&create(31)).threads.len(), 32);
+    // Of the 32 the last is numbered 31. It hasn't run, so it hasn't ended.
+    let full = "loadc 0, loadc 0, create, pop, ".repeat(31);
+    check(&[
+        (&format!("{full} loadc 31, finalize"), "fault 29 0 125 125"),
+        (&format!("{full} loadc 32, finalize"), "fault 33 0 125 125"),
+        (&format!("{full} loadc 32, join"), "fault 33 0 125 125"),
+    ]);
 }
 
 /// Runs until thread 0 has ended.
@@ -67,7 +74,7 @@ fn machine_after(text: &str) -> Machine {
 
 #[test]
 fn sixty_four_and_sixty_five_mutexes_and_conditions() {
-    for (make, used) in [("newmutex", "lock"), ("newcond", "signal")] {
+    for (make, used, bad) in [("newmutex", "lock", 27), ("newcond", "signal", 32)] {
         let made = |times: usize| format!("{} ", format!("{make}, pop, ").repeat(times));
         check(&[
             (&format!("{} {make}, exit", made(63)), "halted 128 63"),
@@ -78,11 +85,11 @@ fn sixty_four_and_sixty_five_mutexes_and_conditions() {
             ),
             (
                 &format!("{} loadc 64, {used}", made(64)),
-                "fault 27 0 129 129",
+                &format!("fault {bad} 0 129 129"),
             ),
             (
                 &format!("{} {make}, {used}", made(64)),
-                "fault 27 0 129 129",
+                &format!("fault {bad} 0 129 129"),
             ),
         ]);
     }

@@ -368,3 +368,73 @@ fn a_return_to_a_caller_is_not_an_ending() {
     let wrong = runner_line(&image(text), Some(Mistake::CallerReturnFaulted));
     assert_eq!(wrong, "fault 31 0 7 6");
 }
+
+#[test]
+fn conditions_and_threads_are_told_apart() {
+    // The right number, with 32 and 33 swapped, and the old answer.
+    for (text, right, swapped, old) in [
+        ("loadc 0, lock", 27, 27, 27),
+        ("loadc 0, unlock", 27, 27, 27),
+        ("loadc 0, signal", 32, 33, 27),
+        ("loadc 0, broadcast", 32, 33, 27),
+        ("loadc 1, join", 33, 32, 27),
+        ("loadc 1, finalize", 33, 32, 27),
+    ] {
+        let told = |mistake| runner_line(&image(text), mistake);
+        let fault = |number: u8| format!("fault {number} 0 1 1");
+        assert_eq!(told(None), fault(right), "{text}");
+        assert_eq!(told(Some(Mistake::KindsSwapped)), fault(swapped), "{text}");
+        assert_eq!(told(Some(Mistake::KindsNotTold)), fault(old), "{text}");
+    }
+    // Other faults stay as they are.
+    for mistake in [Mistake::KindsSwapped, Mistake::KindsNotTold] {
+        let wrong = |text: &str| runner_line(&image(text), Some(mistake));
+        assert_eq!(wrong("newmutex, unlock"), "fault 28 0 1 1");
+        assert_eq!(wrong("loadc 0, finalize"), "fault 29 0 1 1");
+        assert_eq!(wrong("newmutex, lock, exit"), "fault 31 0 2 2");
+    }
+}
+
+#[test]
+fn wait_looks_at_the_condition_first() {
+    // One mutex and one condition: both numbers are bad, or one, or none.
+    for (mutex, condition, right, wrong) in [
+        (1, 1, 32, 27),
+        (-1, -1, 32, 27),
+        (0, 1, 32, 32),
+        (1, 0, 27, 27),
+        (0, 0, 28, 28),
+    ] {
+        let text = format!("newmutex, newcond, loadc {mutex}, loadc {condition}, wait");
+        assert_eq!(line(&text), format!("fault {right} 0 4 4"), "{text}");
+        let told = runner_line(&image(&text), Some(Mistake::WaitMutexFirst));
+        assert_eq!(told, format!("fault {wrong} 0 4 4"), "{text}");
+    }
+}
+
+#[test]
+fn a_thread_is_not_looked_for_among_the_mutexes() {
+    for (text, right, wrong) in [
+        // A thread and no mutex.
+        ("loadc 0, join", "stuck 2", "fault 33 0 1 1"),
+        ("loadc 0, finalize", "fault 29 0 1 1", "fault 33 0 1 1"),
+        // Two mutexes and one thread; thread 1 isn't made, and so it never ends.
+        ("newmutex, newmutex, join", "fault 33 0 2 2", "stuck 3"),
+        (
+            "newmutex, newmutex, finalize",
+            "fault 33 0 2 2",
+            "fault 29 0 2 2",
+        ),
+        // As many of the one as of the other.
+        ("newmutex, join", "stuck 2", "stuck 2"),
+        (
+            "newmutex, loadc 1, join",
+            "fault 33 0 2 2",
+            "fault 33 0 2 2",
+        ),
+    ] {
+        assert_eq!(line(text), right, "{text}");
+        let told = runner_line(&image(text), Some(Mistake::ThreadAmongMutexes));
+        assert_eq!(told, wrong, "{text}");
+    }
+}

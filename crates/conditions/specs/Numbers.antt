@@ -9,9 +9,9 @@ use Rattle.cells.specs.declared.top.Named.the-variants.{Number, Fault}
 use Rattle.conditions.specs.declared.numbers.ACondition.{ACondition}
 use Rattle.conditions.specs.declared.numbers.ACondition.the-variants as condition
 
--- the condition that top names: 27 where it is none of those made
+-- the condition that top names: 32 where it is none of those made
 abbrev pub topCondition : ℕ → List ℤ → Registers → Named
-topCondition size store r = numberAt size store r 1 (r .conditions) 27
+topCondition size store r = numberAt size store r 1 (r .conditions) 32
 
 -- what a check found
 abbrev pub conditionNamed : ACondition → Named

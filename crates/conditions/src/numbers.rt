@@ -1,4 +1,4 @@
-// The number of a condition is made by the check that it is one of those made, which gives 27 where it isn't.
+// The number of a condition is made by the check that it is one of those made, which gives 32 where it isn't.
 ghost use mathlib.Core.Path.{_≡_};
 ghost use lib.ListN.{length};
 ghost use Rattle.cells.specs.Contract.{Able};
@@ -17,7 +17,7 @@ pub fn a_condition(store: &[i32], size: usize, r: Registers) -> ACondition
     requires { ⌜ Able size r (length (now store)) ⌝ }
     ensures { λ c. ⌜ topCondition size (now (store .entry)) r ≡ conditionNamed c ⌝ }
 {
-    match cells::number_at(store, size, r, 1, r.conditions, 27) {
+    match cells::number_at(store, size, r, 1, r.conditions, 32) {
         Named::Number(c) => ACondition::Made(Condition(c)),
         Named::Fault(number) => ACondition::Fault(number),
     }

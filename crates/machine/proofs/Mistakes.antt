@@ -1,4 +1,4 @@
--- The five errors that look right, and the case of change request Two, show on these cards: computed. Assumes nothing.
+-- The five errors that look right, and the cases of change requests Two and Three, show on these cards: computed. Assumes nothing.
 use mathlib.Core.Path.{refl}
 use Rattle.card.specs.Code.{firstBad, wordsOf}
 use Rattle.card.specs.Image.{codeOf, readCode, readOf}
@@ -32,4 +32,13 @@ excluded =
       called-returns = refl;
       emptied-fault = refl;
       overdrawn-fault = refl;
+      no-thread-join = refl;
+      no-thread-finalize = refl;
+      no-mutex-lock = refl;
+      no-mutex-unlock = refl;
+      no-mutex-wait = refl;
+      no-condition-wait = refl;
+      no-condition-signal = refl;
+      no-condition-broadcast = refl;
+      neither-wait = refl;
     }

@@ -140,15 +140,15 @@ module _ (size n : ℕ) (s : State) where
       withRegs (pushed (pos (s .regs .conditions)))
       (withMade (withCells (s .regs) (depth + 1)) (s .regs .threads) (s .regs .mutexes) (s .regs .conditions + 1))
 
-  -- 27: "no such thread, mutex or condition"
+  -- "no such thread, mutex or condition": "27 for a mutex number", "32 condition, 33 thread, where 27 stood" (change request Three)
   abbrev pub aThread : ℤ → (ℕ → Outcome) → Outcome
-  aThread v f = within v (s .regs .threads) 27 f
+  aThread v f = within v (s .regs .threads) 33 f
 
   abbrev pub aMutex : ℤ → (ℕ → Outcome) → Outcome
   aMutex v f = within v (s .regs .mutexes) 27 f
 
   abbrev pub aCondition : ℤ → (ℕ → Outcome) → Outcome
-  aCondition v f = within v (s .regs .conditions) 27 f
+  aCondition v f = within v (s .regs .conditions) 32 f
 
   -- 28: "unlock or wait by another than the owner"
   unfoldable pub owns : ℕ → Outcome → Outcome

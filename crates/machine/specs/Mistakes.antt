@@ -1,5 +1,5 @@
--- "Errors that look right": for each of the five a small card on which it would show, and what the definitions give instead; and the case that change
--- request Two tells.
+-- "Errors that look right": for each of the five a small card on which it would show, and what the definitions give instead; and the cases that
+-- change requests Two and Three tell.
 -- proofs/Mistakes.antt computes them.
 use Prim.Native.Nat.{ℕ}
 use mathlib.Core.List.{List, [], _∷_}
@@ -38,6 +38,12 @@ yield = word 27 (pos 0)
 
 abbrev exit : ℕ
 exit = word 28 (pos 0)
+
+abbrev join : ℕ
+join = word 29 (pos 0)
+
+abbrev finalize : ℕ
+finalize = word 30 (pos 0)
 
 abbrev newmutex : ℕ
 newmutex = word 31 (pos 0)
@@ -119,6 +125,10 @@ emptied = newmutex ∷ lock ∷ pop ∷ pop ∷ pop ∷ exit ∷ []
 abbrev pub overdrawn : List ℕ
 overdrawn = newmutex ∷ lock ∷ pop ∷ return ∷ []
 
+-- "Say which number was bad" (change request Three): the third instruction of a card names what was not made
+abbrev pub NotMade : List ℕ → ℕ → Type 0
+NotMade list number = runIn few list 3 .answer ≡ Faulted number 2
+
 pub record Excluded : Type 0 where
   -- thread 0 owns the mutex, and thread 1 waits for it
   pub woken-owner : ownerOf (tablesAfter woken 17) 0 ≡ 0
@@ -136,3 +146,14 @@ pub record Excluded : Type 0 where
   pub called-returns : runIn few called 7 .answer ≡ Halted
   pub emptied-fault : runIn few emptied 6 .answer ≡ Faulted 21 5
   pub overdrawn-fault : runIn few overdrawn 4 .answer ≡ Faulted 26 3
+  -- what is named was not made, though another of its number was: two mutexes and no thread 1, a condition and no mutex, a mutex and no condition
+  pub no-thread-join : NotMade (newmutex ∷ newmutex ∷ join ∷ []) 33
+  pub no-thread-finalize : NotMade (newmutex ∷ newmutex ∷ finalize ∷ []) 33
+  pub no-mutex-lock : NotMade (newcond ∷ newcond ∷ lock ∷ []) 27
+  pub no-mutex-unlock : NotMade (newcond ∷ newcond ∷ unlock ∷ []) 27
+  pub no-mutex-wait : NotMade (loadc 0 ∷ newcond ∷ wait ∷ []) 27
+  pub no-condition-wait : NotMade (newmutex ∷ loadc 0 ∷ wait ∷ []) 32
+  pub no-condition-signal : NotMade (newmutex ∷ newmutex ∷ signal ∷ []) 32
+  pub no-condition-broadcast : NotMade (newmutex ∷ newmutex ∷ broadcast ∷ []) 32
+  -- "wait looks at the condition before the mutex"
+  pub neither-wait : NotMade (loadc 0 ∷ loadc 0 ∷ wait ∷ []) 32

@@ -148,7 +148,7 @@ switched r thread pc cells fp = withFp (withCells (withPc (withState r (r .state
 
 -- "Numbers given when it can't be done", "the table from 20 up": which numbers are faults is said here alone
 abbrev pub isFault : ℕ → Bool
-isFault number = leb 20 number && leb number 31
+isFault number = leb 20 number && leb number 33
 
 -- "Faults 20 up mark the machine faulted"; "the registers keep the number"
 abbrev pub stopped : Registers → ℕ → Registers

@@ -20,9 +20,9 @@ pub record Goes (size : ℕ) (f : State → State) (tables : List ℕ) (r : Regi
   pub is : (store values : List ℤ) → at store (tablesOf size tables′) values q ≡ f (at store (tablesOf size tables) values r)
   pub good : Good size tables′
 
--- the thread that top names: 27 where it is none of those made
+-- the thread that top names: 33 where it is none of those made
 abbrev pub topThread : ℕ → List ℤ → Registers → Named
-topThread size store r = numberAt size store r 1 (r .threads) 27
+topThread size store r = numberAt size store r 1 (r .threads) 33
 
 -- what a check found
 abbrev pub threadNamed : AThread → Named

@@ -38,7 +38,7 @@ pub fn registers_fit(r: Registers, size: usize) -> bool
 fn is_fault(number: usize) -> bool
     ensures { λ b. ⌜ b ≡ isFault number ⌝ }
 {
-    in_range(20, 31, number)
+    in_range(20, 33, number)
 }
 
 // A faulted machine has the number of its fault, any other has none.

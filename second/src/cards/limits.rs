@@ -456,9 +456,10 @@ struct Made {
 
 /// Numbers on both sides of what an instruction can take: for top, and for the cell below it.
 fn both_sides(op: Op, made: &Made) -> (Vec<Number>, Vec<Number>) {
-    // The ends of "0 to `made` - 1", and of the table.
+    // The ends of "0 to `made` - 1", of the table, and of 32 bits.
     let of = |made: i32, limit: i32| {
-        let ends = [-1, 0, 0, made - 1, made - 1, made, limit - 1, limit];
+        let (last, least, largest) = (made - 1, i32::MIN, i32::MAX);
+        let ends = [-1, 0, 0, last, last, made, limit - 1, limit, least, largest];
         ends.map(Number::Is).to_vec()
     };
     let is = |values: &[i32]| {
