@@ -1,4 +1,2 @@
 pub mod Code
 pub mod Image
-pub mod Writing
-pub mod RoundTrip

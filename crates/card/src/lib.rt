@@ -1,14 +1,15 @@
-// The card image: its reader, its code part and its writer.
-// The public functions are `read`, `code_part` and `write`, which take any input. `fetch` is inner, for the machine.
+// The card image: its reader and its code part.
+// The public functions are `read` and `code_part`, which take any input. The others are inner, for the writer and the machine.
 mod fetching;
 mod reader;
 mod scan;
-mod writer;
 
 pub use fetching::Instruction;
 pub use fetching::fetch;
 pub use reader::Reading;
 pub use reader::code_part;
+pub use reader::last_of;
+pub use reader::out_of_range;
 pub use reader::read;
-pub use writer::Writing;
-pub use writer::write;
+pub use scan::Scan;
+pub use scan::scan_words;

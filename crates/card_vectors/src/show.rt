@@ -1,7 +1,7 @@
 // Lines that say what the reader and the writer answer.
 use card::Reading;
-use card::Writing;
 use libc::STDOUT_FILENO;
+use writer::Writing;
 
 fn text(s: &[u8]) {
     io::write_all(STDOUT_FILENO, s);
@@ -51,7 +51,7 @@ fn dump(s: &[u8]) {
 pub fn writing(label: &[u8], cells: usize, list: &[u32], out: &mut [u8]) {
     text(label);
     text(b": ");
-    match card::write(cells, list, out) {
+    match writer::write(cells, list, out) {
         Writing::Written { size } => {
             text(b"written ");
             number(size as u64);

@@ -11,17 +11,17 @@ use borrow.Author.Tests.{eq-eqb, ne-eqb}
 use Rattle.card.proofs.Header.{accepts, code-part}
 use Rattle.card.specs.Image.{codeOf, countOf, readOf}
 use Rattle.card.specs.declared.reader.Reading.the-variants as reading
-use Rattle.engine.specs.Contract.{Carded, Lasts, boxed}
+use Rattle.engine.specs.Contract.{Carded, Lasts}
 use Rattle.engine.specs.declared.progress.Progress.{Progress}
 use Rattle.machine.proofs.Runs.{run-done, run-misfit, run-unformed, run-unread}
 use Rattle.machine.proofs.Slices.{slice-tables}
-use Rattle.machine.specs.Calls.{answerOf, refused, runCall}
+use Rattle.machine.specs.Calls.{answerOf, boxed, refused, runCall}
 use Rattle.machine.specs.State.{State}
 use Rattle.machine.specs.Tables.{sliceOf}
 use Rattle.machine.specs.WellFormed.{wellFormed}
 use Rattle.machine.specs.declared.registers.Registers.{Registers}
-use Rattle.cma.specs.Outcome.{Gives, outcomeOf, refusal}
-use Rattle.cma.specs.declared.results.Outcome.{Outcome}
+use Rattle.outcome.specs.Outcome.{Gives, outcomeOf, refusal}
+use Rattle.outcome.specs.declared.Outcome.{Outcome}
 
 -- the code part of an accepted card, and its number of instructions
 pub carded : (image code : List ℕ) (cells : ℕ) → readOf image ≡ reading.Accepted cells → code ≡ codeOf image → Carded code (length code / 4)

@@ -1,2 +1,1 @@
-pub mod SetUps
 pub mod Called

@@ -1,14 +1,13 @@
 // Step and run. Each call tests its card, store and tables once, in the paper's order, and a run then goes on without looking at them again.
 ghost use Prim.Native.Nat.{_≤_};
-ghost use Rattle.cma.specs.Outcome.{Gives};
-ghost use Rattle.engine.specs.Contract.{boxed};
-ghost use Rattle.machine.specs.Calls.{runCall, stepCall};
+ghost use Rattle.outcome.specs.Outcome.{Gives};
+ghost use Rattle.machine.specs.Calls.{boxed, runCall, stepCall};
 ghost use Rattle.machine.specs.Size.{full};
-use crate::results::Outcome;
-use crate::results::ended;
-use crate::results::refused;
 use card::Reading;
 use machine::Registers;
+use outcome::Outcome;
+use outcome::ended;
+use outcome::refused;
 
 fn run_box(
     image: &[u8],

@@ -10,8 +10,9 @@ use lib.IntN.{ℤ}
 use lib.ListN.{length, length-append}
 use borrow.Author.Tests.{eq-eqb, ne-eqb}
 use Rattle.card.specs.Code.{wordsOf}
-use Rattle.engine.specs.Contract.{Carded, Carries, Course, Under, boxed, stateAt}
+use Rattle.engine.specs.Contract.{Carded, Carries, Course, Under, stateAt}
 use Rattle.engine.proofs.Working.{words-of}
+use Rattle.machine.specs.Calls.{boxed}
 use Rattle.machine.proofs.Lists.{same-or-not}
 use Rattle.machine.proofs.Laws.{bookFor, held-sound, sound-held}
 use Rattle.machine.proofs.Runs.{run-more, run-stopped}

@@ -8,9 +8,10 @@ use lib.IntN.{ℤ}
 use lib.ListN.{length}
 use Rattle.card.specs.Code.{instructionAt, wordsOf}
 use Rattle.cells.specs.Contract.{Able, DoesIn}
-use Rattle.engine.specs.Contract.{Carded, Carries, Housed, Under, boxed, stateAt}
+use Rattle.engine.specs.Contract.{Carded, Carries, Housed, Under, stateAt}
 use Rattle.engine.proofs.Course.{begun, counted, faulted-at, stays-sound, tells-done, tells-fault}
 use Rattle.engine.proofs.Working.{at-pc, working}
+use Rattle.machine.specs.Calls.{boxed}
 use Rattle.machine.specs.Instructions.{instructionOf}
 use Rattle.machine.specs.Laws.{Sound}
 use Rattle.machine.specs.Registers.{faulted, running}

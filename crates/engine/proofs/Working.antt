@@ -10,8 +10,9 @@ use Rattle.card.proofs.Words.{count, word}
 use Rattle.card.specs.Code.{instructionAt, wordsOf}
 use Rattle.dispatch.specs.Contract.{Working}
 use Rattle.local.specs.Contract.{Permitted}
-use Rattle.engine.specs.Contract.{Carded, boxed}
+use Rattle.engine.specs.Contract.{Carded}
 use Rattle.engine.proofs.Operands.{count-fits, target-natural}
+use Rattle.machine.specs.Calls.{boxed}
 use Rattle.machine.proofs.Held.{card-of}
 use Rattle.machine.proofs.Laws.{sound-held}
 use Rattle.machine.proofs.Targets.{Card}

@@ -10,17 +10,13 @@ use Rattle.card.specs.declared.reader.Reading.the-variants as reading
 use Rattle.engine.specs.declared.progress.Progress.{Progress}
 use Rattle.local.specs.Contract.{Others}
 use Rattle.machine.specs.Book.{Entry}
-use Rattle.machine.specs.Calls.{Box}
+use Rattle.machine.specs.Calls.{boxed}
 use Rattle.machine.specs.Laws.{Sound}
 use Rattle.machine.specs.State.{State}
 use Rattle.machine.specs.Step.{carried, countOf, joined, run}
 use Rattle.machine.specs.Tables.{tablesOf}
 use Rattle.machine.specs.declared.registers.Registers.{Registers}
 use Rattle.cells.specs.Contract.{at}
-
--- what a call is lent, with its registers
-abbrev pub boxed : List ℤ → List ℕ → List ℤ → Registers → Box
-boxed store tables values r = record { store = store; tables = tables; values = values; regs = r }
 
 -- the code part of an accepted card, of n instructions
 pub record Carded (code : List ℕ) (n : ℕ) : Type 0 where

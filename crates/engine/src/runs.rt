@@ -2,8 +2,9 @@
 ghost use Prim.Native.Nat.{_≤_, _<_};
 ghost use mathlib.Core.Path.{_≡_};
 ghost use Rattle.card.specs.Code.{instructionAt};
-ghost use Rattle.engine.specs.Contract.{Carded, Carries, Lasts, Onward, boxed};
+ghost use Rattle.engine.specs.Contract.{Carded, Carries, Lasts, Onward};
 ghost use Rattle.local.specs.Contract.{Others};
+ghost use Rattle.machine.specs.Calls.{boxed};
 ghost use Rattle.machine.specs.Laws.{Sound};
 use crate::progress::Progress;
 use crate::stretches::stretch;

@@ -12,10 +12,10 @@ use lib.Dec.{ltb}
 use lib.ListN.{drop, length, take}
 use lib.Seq.{length-take-le, sets, sets-eq, take-append-seam}
 use Rattle.card.specs.Image.{imageSize, lastOf, outOfRange}
-use Rattle.card.specs.Writing.{Wrote, afterList, bufferOf, writeOf}
+use Rattle.writer.specs.Writing.{Wrote, afterList, bufferOf, writeOf}
 use Rattle.card.specs.declared.scan.Scan.the-variants.{Bad}
-use Rattle.card.specs.declared.writer.Writing.{Writing}
-use Rattle.card.specs.declared.writer.Writing.the-variants as writing
+use Rattle.writer.specs.declared.Writing.{Writing}
+use Rattle.writer.specs.declared.Writing.the-variants as writing
 use Rattle.card.proofs.Header.{in-range, or-false}
 use Rattle.machine.proofs.Lists.{cases, less-or-not}
 use Rattle.digits.specs.Reading.{capped}

@@ -11,14 +11,14 @@ use lib.IntN.{ℤ}
 use lib.ListN.{drop, length, length-drop, take}
 use Rattle.card.specs.Code.{firstBad, wordsOf as codeWords}
 use Rattle.card.specs.Image.{cellsOf, codeOf, countOf, imageSize, lastOf, outOfRange}
-use Rattle.card.specs.RoundTrip.{Each}
-use Rattle.card.specs.Writing.{imageOf, writeOf}
+use Rattle.writer.specs.RoundTrip.{Each}
+use Rattle.writer.specs.Writing.{imageOf, writeOf}
 use Rattle.card.specs.declared.reader.Reading.the-variants.{Accepted}
 use Rattle.card.specs.declared.scan.Scan.the-variants.{Fine}
-use Rattle.card.specs.declared.writer.Writing.the-variants as writing
+use Rattle.writer.specs.declared.Writing.the-variants as writing
 use Rattle.card.proofs.Header.{InRange, accepts, code-part, in-range, neither, not-out, or-false}
-use Rattle.card.proofs.RoundTrip.{read-is-written, written-is-read}
-use Rattle.card.proofs.Success.{succeeds}
+use Rattle.writer.proofs.RoundTrip.{read-is-written, written-is-read}
+use Rattle.writer.proofs.Success.{succeeds}
 use Rattle.card.proofs.Words.{count}
 use Rattle.lister.specs.Text.{listingOf, textOf}
 use Rattle.importer.specs.Coding.{codedItems}

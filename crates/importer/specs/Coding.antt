@@ -8,9 +8,9 @@ use lib.Dec.{eqb, ltb}
 use lib.ListN.{length, take}
 use lib.IntN.{ℤ}
 use lib.Seq.{sets}
-use Rattle.card.specs.Writing.{bufferOf, writeOf}
-use Rattle.card.specs.declared.writer.Writing.{Writing}
-use Rattle.card.specs.declared.writer.Writing.the-variants as writing
+use Rattle.writer.specs.Writing.{bufferOf, writeOf}
+use Rattle.writer.specs.declared.Writing.{Writing}
+use Rattle.writer.specs.declared.Writing.the-variants as writing
 use Rattle.digits.specs.Reading.{capped, valueOf}
 use Rattle.digits.specs.declared.Decimal.{Decimal}
 use Rattle.digits.specs.declared.Decimal.the-variants as decimal

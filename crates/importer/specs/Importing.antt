@@ -9,7 +9,7 @@ use lib.IntN.{ℤ, pos, negsuc}
 use lib.ListN.{drop, length}
 use Rattle.instruction.specs.Rules.{allows, isBetween, ruleOf}
 use Rattle.card.specs.Image.{imageSize, lastOf, outOfRange}
-use Rattle.card.specs.Writing.{imageOf, wordsBytes}
+use Rattle.writer.specs.Writing.{imageOf, wordsBytes}
 use Rattle.digits.specs.Reading.{allDigits, isDecimal, valueFrom}
 use Rattle.words.specs.Words.{bytes, same, split}
 use Rattle.names.specs.Names.{namedFrom, names}

@@ -4,7 +4,7 @@ use mathlib.Core.List.{List, _++_}
 use mathlib.Core.Path.{_≡_}
 use lib.ListN.{drop, length, take}
 use Rattle.card.specs.Image.{cellsOf, readOf}
-use Rattle.card.specs.RoundTrip.{Each}
+use Rattle.writer.specs.RoundTrip.{Each}
 use Rattle.card.specs.declared.reader.Reading.the-variants.{Accepted}
 use Rattle.lister.specs.Text.{listingOf}
 use Rattle.importer.specs.Importing.{answerOf, imported, said}

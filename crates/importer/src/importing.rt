@@ -10,7 +10,7 @@ use crate::header::Header;
 use crate::header::read_header;
 use crate::lines::Lines;
 use crate::lines::read_lines;
-use card::Writing;
+use writer::Writing;
 
 // The most instructions that a card has.
 const MOST: usize = 4096;
@@ -52,7 +52,7 @@ fn write_card(cells: usize, count: usize, words: &[u32], out: &mut [u8]) -> Impo
             place: 5,
         };
     }
-    let answer = card::write(cells, &words[..count], out);
+    let answer = writer::write(cells, &words[..count], out);
     renumbered(answer)
 }
 

@@ -5,10 +5,11 @@ use mathlib.Core.Path.{_≡_, refl}
 use native.Mathlib.Omega.{arith}
 use lib.IntN.{ℤ}
 use lib.ListN.{length}
-use Rattle.cma.specs.Outcome.{Gives}
-use Rattle.cma.specs.declared.results.Outcome.{Outcome}
+use Rattle.outcome.specs.Outcome.{Gives}
+use Rattle.outcome.specs.declared.Outcome.{Outcome}
 use Rattle.machine.specs.Calls.{Called}
-use Rattle.leprahoon.specs.Lists.{Reports, answerList, listOf, registersOf}
+use Rattle.lists.specs.Lists.{answerList, listOf, registersOf}
+use Rattle.leprahoon.specs.Lists.{Reports}
 
 -- what a call gives, put into lists
 pub reported : {called : Called} {o : Outcome} {store : List ℤ} {tables : List ℕ} {values : List ℤ} {registers report : List ℕ} →

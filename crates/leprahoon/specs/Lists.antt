@@ -1,14 +1,14 @@
 -- The machine's calls with lists of numbers in the place of structs and enums, as C can lend them.
 use Prim.Native.Nat.{ℕ}
 use mathlib.Core.List.{List, [], _∷_}
-use mathlib.Core.Path.{_≡_, refl}
+use mathlib.Core.Path.{_≡_}
 use lib.IntN.{ℤ}
-use lib.ListN.{getD, length}
-use Rattle.card.specs.Writing.{bufferOf, writeOf}
+use lib.ListN.{length}
+use Rattle.writer.specs.Writing.{bufferOf, writeOf}
 use Rattle.card.specs.declared.reader.Reading.{Reading}
 use Rattle.card.specs.declared.reader.Reading.the-variants as reading
-use Rattle.card.specs.declared.writer.Writing.{Writing}
-use Rattle.card.specs.declared.writer.Writing.the-variants as writing
+use Rattle.writer.specs.declared.Writing.{Writing}
+use Rattle.writer.specs.declared.Writing.the-variants as writing
 use Rattle.importer.specs.Importing.{answerOf, imported, said}
 use Rattle.importer.specs.declared.importing.Importing.{Importing}
 use Rattle.importer.specs.Importing as importing
@@ -19,41 +19,7 @@ use Rattle.lister.specs.Listing.{listOf as lineAsked, listed}
 use Rattle.lister.specs.declared.listing.Listing.{Listing}
 use Rattle.lister.specs.Listing as listing
 use Rattle.machine.specs.Calls.{Called, countOf}
-use Rattle.machine.specs.declared.answers.Answer.{Answer}
-use Rattle.machine.specs.declared.answers.Answer.the-variants.{Halted, Running, Stuck, Faulted, Refused}
-use Rattle.machine.specs.declared.registers.Registers.{Registers}
-
--- the registers as ten numbers
-abbrev pub listOf : Registers → List ℕ
-listOf r =
-    r .state ∷ r .fault ∷ r .thread ∷ r .pc ∷ r .cells ∷ r .fp ∷ r .free ∷ r .threads ∷ r .mutexes ∷ r .conditions ∷ []
-
--- and back
-abbrev pub registersOf : List ℕ → Registers
-registersOf l =
-    record {
-      state = getD l 0 0;
-      fault = getD l 1 0;
-      thread = getD l 2 0;
-      pc = getD l 3 0;
-      cells = getD l 4 0;
-      fp = getD l 5 0;
-      free = getD l 6 0;
-      threads = getD l 7 0;
-      mutexes = getD l 8 0;
-      conditions = getD l 9 0;
-    }
-
-there-and-back : (r : Registers) → registersOf (listOf r) ≡ r
-there-and-back r = refl
-
--- an answer and a count as four numbers: the state (4 for a refused call), number, place, count
-abbrev pub answerList : Answer → ℕ → List ℕ
-answerList Halted count = 0 ∷ 0 ∷ 0 ∷ count ∷ []
-answerList Running count = 1 ∷ 0 ∷ 0 ∷ count ∷ []
-answerList Stuck count = 2 ∷ 0 ∷ 0 ∷ count ∷ []
-answerList (Faulted number place) count = 3 ∷ number ∷ place ∷ count ∷ []
-answerList (Refused number place) count = 4 ∷ number ∷ place ∷ count ∷ []
+use Rattle.lists.specs.Lists.{answerList, listOf}
 
 -- what a call leaves in everything that it was lent
 pub record Reports (called : Called) (store : List ℤ) (tables : List ℕ) (values : List ℤ) (registers report : List ℕ) : Type 0 where

@@ -1,14 +1,14 @@
 // Set-up, step and run on memory that a C program lends.
 ghost use mathlib.Core.Path.{_≡_};
-ghost use Rattle.engine.specs.Contract.{boxed};
-ghost use Rattle.machine.specs.Calls.{runCall, setUp, stepCall};
+ghost use Rattle.machine.specs.Calls.{boxed, runCall, setUp, stepCall};
 ghost use Rattle.machine.specs.Registers.{zeros};
 ghost use Rattle.machine.specs.Size.{full};
-ghost use Rattle.leprahoon.specs.Lists.{Reports, answerList, listOf, registersOf};
-use crate::lists::list_of;
-use crate::lists::report_of;
-use crate::lists::take_registers;
+ghost use Rattle.lists.specs.Lists.{answerList, listOf, registersOf};
+ghost use Rattle.leprahoon.specs.Lists.{Reports};
 use cma::Outcome;
+use lists::list_of;
+use lists::report_of;
+use lists::take_registers;
 
 fn put_outcome(o: Outcome, registers: &mut [usize; 10], report: &mut [usize; 4])
     ensures { λ _. ⌜ now (registers .exit) ≡ listOf (o .registers) ⌝ }

@@ -3,8 +3,8 @@ ghost use mathlib.Core.Path.{_≡_};
 ghost use Rattle.card.specs.Image.{readOf};
 ghost use Rattle.leprahoon.specs.Lists.{PrintsLine, WroteList, lineLength, readList, writeList};
 use card::Reading;
-use card::Writing;
 use line::Line;
+use writer::Writing;
 
 fn list_of_reading(r: Reading) -> [usize; 3]
     ensures { λ l. ⌜ l ≡ readList r ⌝ }
@@ -51,7 +51,7 @@ pub extern "C" fn leprahoon_write(
 )
     ensures { λ _. ⌜ WroteList cells (now (list .entry)) (now (out .entry)) (now (out .exit)) (now (report .exit)) ⌝ }
 {
-    *report = list_of_writing(card::write(cells, list, out));
+    *report = list_of_writing(writer::write(cells, list, out));
 }
 
 // Runs a card as the runner does and writes its line; gives the line's length, or 0 where the buffer has under 90 bytes.

@@ -1,7 +1,6 @@
 // The machine for programs in C: each exported function takes any input, and says all that it leaves.
 mod calls;
 mod cards;
-mod lists;
 mod texts;
 
 pub use calls::leprahoon_run;

@@ -9,10 +9,9 @@ use borrow.Author.Tests.{le-ltb, lt-ltb}
 use lib.IntN.{ℤ}
 use lib.ListN.{length}
 use lib.Seq.{sets-eq}
-use Rattle.cma.specs.Outcome.{Gives}
-use Rattle.cma.specs.declared.results.Outcome.{Outcome}
-use Rattle.engine.specs.Contract.{boxed}
-use Rattle.machine.specs.Calls.{Box, Called, runCall, setUp}
+use Rattle.outcome.specs.Outcome.{Gives}
+use Rattle.outcome.specs.declared.Outcome.{Outcome}
+use Rattle.machine.specs.Calls.{Box, Called, boxed, runCall, setUp}
 use Rattle.machine.specs.Runner.{isRefused, judgedPart, lineOf, runnerCall, runnerIn, runnerLine, stepLimit}
 use Rattle.machine.specs.Size.{full}
 use Rattle.machine.specs.declared.registers.Registers.{Registers}

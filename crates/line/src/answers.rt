@@ -2,8 +2,8 @@
 ghost use Prim.Native.Nat.{_≤_};
 ghost use lib.ListN.{length};
 ghost use mathlib.Core.Path.{_≡_};
-ghost use Rattle.cma.specs.Outcome.{Gives};
-ghost use Rattle.engine.specs.Contract.{boxed};
+ghost use Rattle.outcome.specs.Outcome.{Gives};
+ghost use Rattle.machine.specs.Calls.{boxed};
 ghost use Rattle.machine.specs.Registers.{zeros};
 ghost use Rattle.machine.specs.Runner.{isRefused, lineOf, runnerCall, runnerIn};
 ghost use Rattle.machine.specs.Size.{full};

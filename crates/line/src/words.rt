@@ -2,7 +2,7 @@
 ghost use Prim.Native.Nat.{_+_, _≤_};
 ghost use lib.ListN.{length};
 ghost use mathlib.Core.List.{[], _∷_};
-ghost use Rattle.engine.specs.Contract.{boxed};
+ghost use Rattle.machine.specs.Calls.{boxed};
 ghost use Rattle.machine.specs.Registers.{zeros};
 ghost use Rattle.machine.specs.Runner.{faultWord, haltedWord, refusedWord, resultOf};
 ghost use Rattle.machine.specs.Size.{full};

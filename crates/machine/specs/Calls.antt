@@ -27,6 +27,10 @@ pub record Box : Type 0 where
   pub values : List ℤ
   pub regs : Registers
 
+-- what a call is lent, with its registers
+abbrev pub boxed : List ℤ → List ℕ → List ℤ → Registers → Box
+boxed store tables values r = record { store = store; tables = tables; values = values; regs = r }
+
 abbrev pub stateOf : ℕ → Box → State
 stateOf size box =
     record { store = box .store; tables = tablesOf size (box .tables); values = box .values; regs = box .regs }

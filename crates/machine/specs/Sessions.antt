@@ -10,7 +10,7 @@ use mathlib.Core.Path.{_≡_, refl}
 use lib.Dec.{eqb}
 use lib.IntN.{ℤ, pos, negsuc}
 use lib.ListN.{getD}
-use Rattle.card.specs.Writing.{imageOf, wordsBytes}
+use Rattle.writer.specs.Writing.{imageOf, wordsBytes}
 use Rattle.machine.specs.Calls.{Box, Called, stateOf}
 use Rattle.machine.specs.Execution.{eqZ}
 use Rattle.machine.specs.Lists.{upTo}

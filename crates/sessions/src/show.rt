@@ -1,7 +1,7 @@
 // What is printed for a card.
-use card::Writing;
 use libc::STDOUT_FILENO;
 use line::Line;
+use writer::Writing;
 
 pub fn text(s: &[u8]) {
     io::write_all(STDOUT_FILENO, s);
@@ -51,7 +51,7 @@ fn not_written(no: usize, place: usize) {
 // The runner's line of the card with these global cells and instructions.
 fn card_line(cells: usize, list: &[u32]) {
     let mut image = [0u8; 16393];
-    match card::write(cells, list, &mut image) {
+    match writer::write(cells, list, &mut image) {
         Writing::Written { size } => image_prefix(&image, size),
         Writing::Refused { number: no, place } => not_written(no as usize, place),
     }

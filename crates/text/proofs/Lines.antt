@@ -6,7 +6,7 @@ use native.Mathlib.Numerals.{add-one}
 use native.Mathlib.Omega.{arith}
 use lib.ListN.{drop, drop-of-length-le, getD, length, length-append, set}
 use lib.Seq.{drop-cons, sets}
-use Rattle.card.proofs.Stores.{sets-append}
+use Rattle.instruction.proofs.Stores.{sets-append}
 use Rattle.text.specs.Lines.{Puts}
 
 -- two texts, one after the other, are one

@@ -3,10 +3,8 @@ ghost use mathlib.Core.Path.{_≡_};
 ghost use Prim.Native.Nat.{_≤_};
 ghost use Rattle.machine.specs.WellFormed.{tablesFit, wellFormed};
 
-mod order;
 mod owners;
 mod places;
-mod ranges;
 mod state;
 
 use machine::Registers;
@@ -29,7 +27,7 @@ pub fn well_formed(r: Registers, tables: &[usize], values: &[i32], size: usize) 
     if !ranges::registers_fit(r, size) {
         return false;
     }
-    if !order::line_fits(tables, size) {
+    if !ranges::line_fits(tables, size) {
         return false;
     }
     places::threads_fit(r, tables, size)

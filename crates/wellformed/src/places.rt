@@ -6,10 +6,10 @@ ghost use Rattle.machine.specs.Tables.{tablesOf};
 ghost use Rattle.machine.specs.WellFormed.{savedFits, threadFits, waitFits};
 ghost use Rattle.cells.specs.Contract.{Made};
 ghost use Rattle.tables.specs.Good.{Good};
-use crate::ranges::frame_fits;
 use machine::Mutex;
 use machine::Registers;
 use machine::Thread;
+use ranges::frame_fits;
 
 fn saved_fits(tables: &[usize], size: usize, t: usize) -> bool
     requires { ⌜ Good size (now tables) ⌝ }

@@ -5,7 +5,7 @@ use denote.Ref.{now}
 use Rattle.machine.specs.WellFormed.{formed, wellFormed}
 use Rattle.cells.specs.Contract.{Made}
 use Rattle.tables.specs.Good.{Good}
-use Rattle.wellformed.proofs.Loops.{good, made}
+use Rattle.wellformed.proofs.Passed.{good, made}
 use borrow.Author.Needs.{needs}
 use Rattle.wellformed.proofs.well_formed.Statement.{statement}
 use Rattle.wellformed.proofs.well_formed.Tie as tie

@@ -1,7 +1,7 @@
 -- `cma::calls::step` meets its contract. Assumes nothing.
 use borrow.Author.Needs.{needs}
 use denote.Ref.{now}
-use Rattle.engine.specs.Contract.{boxed}
+use Rattle.machine.specs.Calls.{boxed}
 use Rattle.machine.proofs.Runs.{step-is-run}
 use Rattle.machine.specs.Size.{full}
 use Rattle.cma.proofs.calls.step.Statement.{statement}

@@ -1,0 +1,13 @@
+-- `outcome::ended` meets its contract. Assumes nothing.
+use borrow.Author.Needs.{needs}
+use Rattle.outcome.proofs.ended.Statement.{statement}
+use Rattle.outcome.proofs.ended.Tie as tie
+
+answer-of-requires : tie.Need-answer-of-requires
+answer-of-requires c κs = search needs
+
+returns : tie.Need-returns
+returns c = rw (c .answer-of .ensures)
+
+pub ended-spec : {M : Type 1} → statement M
+ended-spec = tie.close (tie.spec answer-of-requires returns)
