@@ -27,7 +27,7 @@ instructionAt code at =
       operand = operandOf (wordAt code (4 * at));
     }
 
--- number 4, "opcode over 37", and number 5, "operand against its rule"
+-- number 4, "4 now from opcode 41", and number 5, "operand against its rule"
 abbrev pub scanOf : Verdict → ℕ → Scan
 scanOf verdict.Fine i = Fine
 scanOf verdict.BadOpcode i = Bad 4 i

@@ -102,11 +102,11 @@ fn lists() {
     let mut list = [0u32; 3];
     list[0] = 0x0100_0007;
     list[1] = 0x1c00_0000;
-    list[2] = 0x2600_0000;
+    list[2] = 0x2900_0000;
     writing(b"list of none", 1, &list[..0], &mut out);
     writing(b"list of one", 1, &list[..1], &mut out);
     writing(b"P2 written", 1, &list[..2], &mut out);
-    writing(b"opcode 38 third", 1, &list, &mut out);
+    writing(b"opcode 41 third", 1, &list, &mut out);
     writing(b"g 0 before the list", 0, &list, &mut out);
     writing(b"g 4097 before the list", 4097, &list, &mut out);
     writing(b"g 4096", 4096, &list[..2], &mut out);
@@ -147,8 +147,8 @@ fn longest() {
     put(&mut out, 16391, 16);
     put(&mut out, 16392, 0);
     prefix(b"jump 4096 last", &out, 16393);
-    put(&mut out, 16389, 38);
-    prefix(b"opcode 38 last", &out, 16393);
+    put(&mut out, 16389, 41);
+    prefix(b"opcode 41 last", &out, 16393);
 }
 
 fn main() {

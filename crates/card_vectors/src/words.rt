@@ -53,8 +53,10 @@ fn targets() {
 fn opcodes() {
     second(b"broadcast 0", 0x2500_0000);
     second(b"broadcast 1", 0x2500_0001);
-    second(b"opcode 38, operand 0", 0x2600_0000);
-    second(b"opcode 38, operand 1", 0x2600_0001);
+    second(b"down 0", 0x2800_0000);
+    second(b"down 1", 0x2800_0001);
+    second(b"opcode 41, operand 0", 0x2900_0000);
+    second(b"opcode 41, operand 1", 0x2900_0001);
     second(b"opcode 255", 0xff00_0000);
 }
 

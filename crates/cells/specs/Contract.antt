@@ -59,11 +59,21 @@ abbrev pub ActsIn : ℕ → ℕ → Instruction → List ℤ → List ℕ → Re
 ActsIn size n i store tables r store′ tables′ q =
     (values : List ℤ) → at store′ (tablesOf size tables′) values q ≡ after size n (at store (tablesOf size tables) values r) i
 
+-- an instruction on cells, tables and values, for every card
+abbrev pub Changes : ℕ → Instruction → List ℤ → List ℕ → List ℤ → Registers → List ℤ → List ℕ → List ℤ → Registers → Type 0
+Changes size i store tables values r store′ tables′ values′ q =
+    (n : ℕ) → at store′ (tablesOf size tables′) values′ q ≡ after size n (at store (tablesOf size tables) values r) i
+
+abbrev pub ChangesIn : ℕ → ℕ → Instruction → List ℤ → List ℕ → List ℤ → Registers → List ℤ → List ℕ → List ℤ → Registers → Type 0
+ChangesIn size n i store tables values r store′ tables′ values′ q =
+    at store′ (tablesOf size tables′) values′ q ≡ after size n (at store (tablesOf size tables) values r) i
+
 -- the counts of what was made are in range
 pub record Made (size : ℕ) (r : Registers) : Type 0 where
   pub threads : r .threads ≤ size
   pub mutexes : r .mutexes ≤ 2 * size
   pub conditions : r .conditions ≤ 2 * size
+  pub semaphores : r .semaphores ≤ size
 
 -- a cell's value as a number below a limit
 abbrev pub indexOf : ℤ → ℕ → Index

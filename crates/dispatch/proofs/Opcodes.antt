@@ -6,14 +6,14 @@ use Rattle.local.proofs.Opcodes.{NoneOf, from-none}
 use Rattle.local.specs.Contract.{Others}
 
 -- no opcode of an accepted card is left
-pub none : (op : ℕ) → Others op → op ≤ 37 → NoneOf (NoneOf (NoneOf Unit 0 1 op) 6 1 op) 24 14 op → ⊥
+pub none : (op : ℕ) → Others op → op ≤ 40 → NoneOf (NoneOf (NoneOf Unit 0 1 op) 6 1 op) 24 17 op → ⊥
 none op which most h =
-    let last = from-none _ 24 14 op h in
+    let last = from-none _ 24 17 op h in
     let six = from-none _ 6 1 op (last .0) in
     let zero = from-none _ 0 1 op (six .0) in
     by-opcode which (last .1) (six .1) (zero .1)
   where
-    by-opcode : Others op → (op < 24) ⊎ (38 ≤ op) → (op < 6) ⊎ (7 ≤ op) → (op < 0) ⊎ (1 ≤ op) → ⊥
+    by-opcode : Others op → (op < 24) ⊎ (41 ≤ op) → (op < 6) ⊎ (7 ≤ op) → (op < 0) ⊎ (1 ≤ op) → ⊥
     by-opcode which (inr e) d b = omega (arith, e, most)
     by-opcode (inr (inr k)) (inl e) d b = omega (arith, k, e)
     by-opcode (inr (inl k)) (inl e) (inl d) b = omega (arith, k, d)

@@ -16,10 +16,10 @@ pub fn execute(
     opcode: u32,
     operand: i32,
 ) -> Registers
-    requires { ⌜ Working size r (length (now store)) (now tables) (length (now values)) ⌝ }
+    requires { ⌜ Working size r (length (now store)) (now tables) (now values) ⌝ }
     requires { ⌜ Permitted opcode operand ⌝ }
     requires { ⌜ Others opcode ⌝ }
-    requires { ⌜ opcode ≤ 37 ⌝ }
+    requires { ⌜ opcode ≤ 40 ⌝ }
     ensures { λ q. ⌜ Executes size n (instructionOf opcode operand) (now (store .entry)) (now (tables .entry)) (now (values .entry)) r (now (store .exit)) (now (tables .exit)) (now (values .exit)) q ⌝ }
 {
     match opcode {
@@ -39,6 +39,9 @@ pub fn execute(
         35 => conditions::wait(store, tables, size, r),
         36 => conditions::signal(store, tables, size, r),
         37 => conditions::broadcast(store, tables, size, r),
+        38 => semaphores::newsema(store, values, size, r),
+        39 => semaphores::up(store, tables, values, size, r),
+        40 => semaphores::down(store, tables, values, size, r),
         // No card that was accepted has another opcode.
         _ => control::halt(r),
     }

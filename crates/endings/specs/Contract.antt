@@ -3,23 +3,12 @@ use Prim.Native.Nat.{ℕ}
 use mathlib.Core.List.{List}
 use mathlib.Core.Path.{_≡_}
 use lib.IntN.{ℤ}
-use Rattle.machine.specs.Instructions.{Instruction}
 use Rattle.machine.specs.State.{ends}
 use Rattle.machine.specs.Tables.{tablesOf}
 use Rattle.machine.specs.declared.registers.Registers.{Registers}
-use Rattle.cells.specs.Contract.{after, at}
+use Rattle.cells.specs.Contract.{at}
 
 -- the running thread ends with a result, and the next one runs, for every store
 abbrev pub Ends : ℕ → ℤ → List ℕ → List ℤ → Registers → List ℕ → List ℤ → Registers → Type 0
 Ends size v tables values r tables′ values′ q =
     (store : List ℤ) → at store (tablesOf size tables′) values′ q ≡ ends size (at store (tablesOf size tables) values r) v
-
--- an instruction does what the definitions say, values and all, for every card
-abbrev pub Changes : ℕ → Instruction → List ℤ → List ℕ → List ℤ → Registers → List ℤ → List ℕ → List ℤ → Registers → Type 0
-Changes size i store tables values r store′ tables′ values′ q =
-    (n : ℕ) → at store′ (tablesOf size tables′) values′ q ≡ after size n (at store (tablesOf size tables) values r) i
-
--- the same of an instruction that looks at the number n of the card's instructions
-abbrev pub ChangesIn : ℕ → ℕ → Instruction → List ℤ → List ℕ → List ℤ → Registers → List ℤ → List ℕ → List ℤ → Registers → Type 0
-ChangesIn size n i store tables values r store′ tables′ values′ q =
-    at store′ (tablesOf size tables′) values′ q ≡ after size n (at store (tablesOf size tables) values r) i

@@ -1,12 +1,12 @@
 // A thread's end and its result, and who waits for them.
-ghost use Prim.Native.Nat.{_<_, _≤_};
+ghost use Prim.Native.Nat.{_*_, _<_, _≤_};
 ghost use mathlib.Core.Path.{_≡_};
 ghost use lib.ListN.{length};
 ghost use Rattle.machine.specs.Instructions.{exit, finalize, join};
 ghost use Rattle.machine.specs.Tables.{atEnd};
-ghost use Rattle.cells.specs.Contract.{Able, Acts, Made};
+ghost use Rattle.cells.specs.Contract.{Able, Acts, Changes, Made};
 ghost use Rattle.tables.specs.Good.{Good};
-ghost use Rattle.endings.specs.Contract.{Changes, Ends};
+ghost use Rattle.endings.specs.Contract.{Ends};
 use machine::Registers;
 use machine::Thread;
 use threads::AThread;
@@ -23,7 +23,7 @@ fn queue_of(size: usize, t: Thread) -> usize
     requires { ⌜ t .0 < size ⌝ }
     ensures { λ p. ⌜ p ≡ atEnd size (t .0) ⌝ }
 {
-    4 + 4 * size + t.0
+    4 + 5 * size + t.0
 }
 
 // The running thread ends with a result, and the next one runs.
@@ -35,7 +35,7 @@ pub fn finish(
     v: i32,
 ) -> Registers
     requires { ⌜ Good size (now tables) ⌝ }
-    requires { ⌜ length (now values) ≡ size ⌝ }
+    requires { ⌜ length (now values) ≡ 2 * size ⌝ }
     requires { ⌜ r .thread < size ⌝ }
     ensures { λ q. ⌜ Ends size v (now (tables .entry)) (now (values .entry)) r (now (tables .exit)) (now (values .exit)) q ⌝ }
 {
@@ -56,7 +56,7 @@ pub fn exit(
 ) -> Registers
     requires { ⌜ Able size r (length (now store)) ⌝ }
     requires { ⌜ Good size (now tables) ⌝ }
-    requires { ⌜ length (now values) ≡ size ⌝ }
+    requires { ⌜ length (now values) ≡ 2 * size ⌝ }
     ensures { λ q. ⌜ Changes size exit (now (store .entry)) (now (tables .entry)) (now (values .entry)) r (now (store .entry)) (now (tables .exit)) (now (values .exit)) q ⌝ }
 {
     let cells = r.cells;
@@ -97,7 +97,7 @@ pub fn finalize(
 ) -> Registers
     requires { ⌜ Able size r (length (now store)) ⌝ }
     requires { ⌜ Good size (now tables) ⌝ }
-    requires { ⌜ length (now values) ≡ size ⌝ }
+    requires { ⌜ length (now values) ≡ 2 * size ⌝ }
     requires { ⌜ Made size r ⌝ }
     ensures { λ q. ⌜ Changes size finalize (now (store .entry)) (now (tables .entry)) (now (values .entry)) r (now (store .exit)) (now (tables .entry)) (now (values .entry)) q ⌝ }
 {

@@ -1,10 +1,10 @@
 // Return, from a frame or from a thread's first function.
+ghost use Prim.Native.Nat.{_*_};
 ghost use mathlib.Core.Path.{_≡_};
 ghost use lib.ListN.{length};
 ghost use Rattle.machine.specs.Instructions.{return};
-ghost use Rattle.cells.specs.Contract.{Able};
+ghost use Rattle.cells.specs.Contract.{Able, ChangesIn};
 ghost use Rattle.tables.specs.Good.{Good};
-ghost use Rattle.endings.specs.Contract.{ChangesIn};
 use crate::ends::finish;
 use cells::Index;
 use machine::Registers;
@@ -20,7 +20,7 @@ pub fn return_from(
 ) -> Registers
     requires { ⌜ Able size r (length (now store)) ⌝ }
     requires { ⌜ Good size (now tables) ⌝ }
-    requires { ⌜ length (now values) ≡ size ⌝ }
+    requires { ⌜ length (now values) ≡ 2 * size ⌝ }
     ensures { λ q. ⌜ ChangesIn size n return (now (store .entry)) (now (tables .entry)) (now (values .entry)) r (now (store .entry)) (now (tables .exit)) (now (values .exit)) q ⌝ }
 {
     let fp = r.fp;

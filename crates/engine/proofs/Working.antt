@@ -13,7 +13,7 @@ use Rattle.local.specs.Contract.{Permitted}
 use Rattle.engine.specs.Contract.{Carded}
 use Rattle.engine.proofs.Operands.{count-fits, target-natural}
 use Rattle.machine.specs.Calls.{boxed}
-use Rattle.machine.proofs.Held.{card-of}
+use Rattle.machine.proofs.Held.{card-of, few-wait}
 use Rattle.machine.proofs.Laws.{sound-held}
 use Rattle.machine.proofs.Targets.{Card}
 use Rattle.machine.specs.Instructions.{instructionOf}
@@ -47,7 +47,7 @@ module _ (code : List ℕ) (n : ℕ) (card : Carded code n) where
 
   -- a sound box whose machine runs has all that an instruction may rely on
   pub working : (size : ℕ) (store : List ℤ) (tables : List ℕ) (values : List ℤ) (r : Registers) → Sound size (boxed store tables values r) → r .state ≡ 1 →
-      size ≤ 32 → r .pc < n → Working size r (length store) tables (length values)
+      size ≤ 32 → r .pc < n → Working size r (length store) tables values
   working size store tables values r h runs small below =
       let held = sound-held size (boxed store tables values r) h in
       let steady = held .right .steady in
@@ -66,13 +66,20 @@ module _ (code : List ℕ) (n : ℕ) (card : Carded code n) where
               fp-most = steady .frame .fp-most;
               free = steady .free-most;
             };
-        made = record { threads = tidy .counts .threads-fit; mutexes = tidy .counts .mutexes-fit; conditions = tidy .counts .conditions-fit };
+        made =
+            record {
+              threads = tidy .counts .threads-fit;
+              mutexes = tidy .counts .mutexes-fit;
+              conditions = tidy .counts .conditions-fit;
+              semaphores = tidy .counts .semaphores-fit;
+            };
         good = record { small = small; long = held .sized; line = tidy .line };
         valued = steady .valued;
+        low = λ k made. few-wait size _ _ (held .right) k made;
       }
 
   -- its instruction is one that an accepted card may have
-  pub permitted : (pc : ℕ) → pc < n → let i = instructionAt code pc in Permitted (i .opcode) (i .operand) × (i .opcode ≤ 37)
+  pub permitted : (pc : ℕ) → pc < n → let i = instructionAt code pc in Permitted (i .opcode) (i .operand) × (i .opcode ≤ 40)
   permitted pc h =
       let w = word code pc (omega (arith, card .long)) in
       let there : pc < length (wordsOf code) = rw so-many h in

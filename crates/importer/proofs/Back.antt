@@ -43,7 +43,7 @@ item-back words item fits e =
 
 -- ---- a line
 
-line-back : (l : List ℕ) (index : ℕ) (item : Item) → item .opcode < 38 → inBits (item .operand) ≡ true → lineRead (split 32 l) ≡ right index item → l ++ 10 ∷ [] ≡ instructionLine index (wordOf item)
+line-back : (l : List ℕ) (index : ℕ) (item : Item) → item .opcode < 41 → inBits (item .operand) ≡ true → lineRead (split 32 l) ≡ right index item → l ++ 10 ∷ [] ≡ instructionLine index (wordOf item)
 line-back l index item h fits e =
     let s = spells (split 32 l) index item e in
     let w = word item h fits in

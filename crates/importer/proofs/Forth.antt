@@ -45,15 +45,15 @@ itemsOf (w ∷ ws) = itemOf w ∷ itemsOf ws
 
 -- an instruction that is right
 record Right (last : ℤ) (w : ℕ) : Type 0 where
-  pub opcode : opcodeOf w < 38
+  pub opcode : opcodeOf w < 41
   pub rule : allows (ruleOf (opcodeOf w)) last (operandOf w) ≡ true
 
 right-of : (last : ℤ) (w : ℕ) → checkOf last w ≡ verdict.Fine → Right last w
-right-of last w e = by (ltb 37 (opcodeOf w)) refl (allows (ruleOf (opcodeOf w)) last (operandOf w)) refl e
+right-of last w e = by (ltb 40 (opcodeOf w)) refl (allows (ruleOf (opcodeOf w)) last (operandOf w)) refl e
   where
-    by : (t : Bool) → ltb 37 (opcodeOf w) ≡ t → (u : Bool) → allows (ruleOf (opcodeOf w)) last (operandOf w) ≡ u → cond t verdict.BadOpcode (cond u verdict.Fine verdict.BadOperand) ≡ verdict.Fine → Right last w
+    by : (t : Bool) → ltb 40 (opcodeOf w) ≡ t → (u : Bool) → allows (ruleOf (opcodeOf w)) last (operandOf w) ≡ u → cond t verdict.BadOpcode (cond u verdict.Fine verdict.BadOperand) ≡ verdict.Fine → Right last w
     by true t u p q = impossible cc
-    by false t true p q = record { opcode = omega (arith, ltb-false 37 (opcodeOf w) t); rule = p }
+    by false t true p q = record { opcode = omega (arith, ltb-false 40 (opcodeOf w) t); rule = p }
     by false t false p q = impossible cc
 
 -- a list whose first and other instructions are right

@@ -31,7 +31,7 @@ use Rattle.importer.specs.Importing.{bitsOf, firstAgainst, inBits, isAll
 
 abbrev pub AllNamed : List Item → Type 0
 AllNamed [] = Unit
-AllNamed (item ∷ items) = (item .opcode < 38) × AllNamed items
+AllNamed (item ∷ items) = (item .opcode < 41) × AllNamed items
 
 -- what follows the name of an instruction: nothing, or its operand
 abbrev pub Operands : List (List ℕ) → Item → Type 0
@@ -76,7 +76,7 @@ spelt (name ∷ []) item e = bare name (opcodeNamed name) item refl e
 spelt (name ∷ k ∷ []) item e = full name k (opcodeNamed name) (operandRead k) item refl refl e
 spelt (name ∷ k ∷ l ∷ more) item e = impossible cc
 
-item-named : (words : List (List ℕ)) (item : Item) → itemRead words ≡ some item → item .opcode < 38
+item-named : (words : List (List ℕ)) (item : Item) → itemRead words ≡ some item → item .opcode < 41
 item-named words item e = let s = spelt words item e in named-is (s .name) (item .opcode) (s .known) .0
 
 -- an item that a line spells, by its words
@@ -150,7 +150,7 @@ pub record Word (item : Item) : Type 0 where
   pub operand : operandOf (wordOf item) ≡ item .operand
   pub small : wordOf item < 4294967296
 
-pub word : (item : Item) → item .opcode < 38 → inBits (item .operand) ≡ true → Word item
+pub word : (item : Item) → item .opcode < 41 → inBits (item .operand) ≡ true → Word item
 word item h e =
     let b = bits (item .operand) e in
     let low : (item .opcode * 16777216 + bitsOf (item .operand)) % 16777216 ≡ bitsOf (item .operand) = omega (arith, b .small) in
@@ -158,12 +158,12 @@ word item h e =
 
 -- ---- one instruction, and all of them
 
-check-coded : (last : ℤ) (item : Item) → item .opcode < 38 → checkOf last (coded item) ≡ cond (isAllowed last item) verdict.Fine verdict.BadOperand
+check-coded : (last : ℤ) (item : Item) → item .opcode < 41 → checkOf last (coded item) ≡ cond (isAllowed last item) verdict.Fine verdict.BadOperand
 check-coded last item h = by (inBits (item .operand)) refl
   where
     by : (t : Bool) → inBits (item .operand) ≡ t →
         checkOf last (cond t (wordOf item) 1) ≡ cond (t && allows (ruleOf (item .opcode)) last (item .operand)) verdict.Fine verdict.BadOperand
-    by true t = let w = word item h t in rw (w .opcode, w .operand, le-ltb 37 (item .opcode) (omega (arith, h)))
+    by true t = let w = word item h t in rw (w .opcode, w .operand, le-ltb 40 (item .opcode) (omega (arith, h)))
     by false t = refl
 
 abbrev pub scanned : Option ℕ → Scan

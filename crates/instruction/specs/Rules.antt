@@ -10,9 +10,9 @@ use Rattle.instruction.specs.declared.Rule.the-variants.{Any, Offset, Co
 use Rattle.instruction.specs.declared.Verdict.{Verdict}
 use Rattle.instruction.specs.declared.Verdict.the-variants.{Fine, BadOpcode, BadOperand}
 
--- the last opcode, broadcast
+-- the last opcode, down (change request Four)
 abbrev pub lastOpcode : ℕ
-lastOpcode = 37
+lastOpcode = 40
 
 -- the rule of each opcode: 4 loadr and 5 storer, 6 alloc, 20 jump and 21 jumpz, 1 loadc; "elsewhere 0"
 abbrev pub ruleOf : ℕ → Rule
@@ -36,7 +36,7 @@ allows Target last k = isBetween (pos 0) last k
 allows Any last k = true
 allows Zero last k = isBetween (pos 0) (pos 0) k
 
--- one instruction: an opcode over 37 is looked at before the operand
+-- one instruction: an opcode over 40 is looked at before the operand
 abbrev pub checkOf : ℤ → ℕ → Verdict
 checkOf last w =
     cond (ltb lastOpcode (opcodeOf w)) BadOpcode

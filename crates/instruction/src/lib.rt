@@ -8,8 +8,8 @@ ghost use Rattle.instruction.specs.Bytes.{byteOf, halfAt, halfBytes, wor
 ghost use Rattle.instruction.specs.Word.{opcodeOf, operandOf};
 ghost use Rattle.instruction.specs.Rules.{allows, checkOf, isBetween, ruleOf};
 
-// The last opcode, broadcast.
-const LAST_OPCODE: u32 = 37;
+// The last opcode, down.
+const LAST_OPCODE: u32 = 40;
 
 // Which operands an opcode takes.
 pub enum Rule {

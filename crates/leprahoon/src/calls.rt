@@ -10,7 +10,7 @@ use lists::list_of;
 use lists::report_of;
 use lists::take_registers;
 
-fn put_outcome(o: Outcome, registers: &mut [usize; 10], report: &mut [usize; 4])
+fn put_outcome(o: Outcome, registers: &mut [usize; 11], report: &mut [usize; 4])
     ensures { λ _. ⌜ now (registers .exit) ≡ listOf (o .registers) ⌝ }
     ensures { λ _. ⌜ now (report .exit) ≡ answerList (o .answer) (o .count) ⌝ }
 {
@@ -26,7 +26,7 @@ pub extern "C" fn leprahoon_set_up(
     store: &mut [i32],
     tables: &mut [usize],
     values: &mut [i32],
-    registers: &mut [usize; 10],
+    registers: &mut [usize; 11],
     report: &mut [usize; 4],
 )
     ensures { λ _. ⌜ Reports (setUp full (now (image .entry)) (boxed (now (store .entry)) (now (tables .entry)) (now (values .entry)) zeros)) (now (store .exit)) (now (tables .exit)) (now (values .exit)) (now (registers .exit)) (now (report .exit)) ⌝ }
@@ -41,7 +41,7 @@ pub extern "C" fn leprahoon_step(
     store: &mut [i32],
     tables: &mut [usize],
     values: &mut [i32],
-    registers: &mut [usize; 10],
+    registers: &mut [usize; 11],
     report: &mut [usize; 4],
 )
     ensures { λ _. ⌜ Reports (stepCall full (now (image .entry)) (boxed (now (store .entry)) (now (tables .entry)) (now (values .entry)) (registersOf (now (registers .entry))))) (now (store .exit)) (now (tables .exit)) (now (values .exit)) (now (registers .exit)) (now (report .exit)) ⌝ }
@@ -56,7 +56,7 @@ pub extern "C" fn leprahoon_run(
     store: &mut [i32],
     tables: &mut [usize],
     values: &mut [i32],
-    registers: &mut [usize; 10],
+    registers: &mut [usize; 11],
     steps: usize,
     report: &mut [usize; 4],
 )

@@ -94,7 +94,7 @@ fn put_line(image: &[u8], out: &mut [u8]) -> usize
 {
     let mut store = [0i32; 8192];
     let mut tables = [0usize; 224];
-    let mut values = [0i32; 32];
+    let mut values = [0i32; 64];
     let o = run_card(image, &mut store, &mut tables, &mut values);
     let answer = o.answer;
     put_answer(out, answer, o.count, o.registers.thread, &tables, &values)

@@ -7,10 +7,11 @@ use Rattle.machine.specs.declared.answers.Answer.{Answer}
 use Rattle.machine.specs.declared.answers.Answer.the-variants.{Halted, Running, Stuck, Faulted, Refused}
 use Rattle.machine.specs.declared.registers.Registers.{Registers}
 
--- the registers as ten numbers
+-- the registers as eleven numbers
 abbrev pub listOf : Registers → List ℕ
 listOf r =
-    r .state ∷ r .fault ∷ r .thread ∷ r .pc ∷ r .cells ∷ r .fp ∷ r .free ∷ r .threads ∷ r .mutexes ∷ r .conditions ∷ []
+    r .state ∷ r .fault ∷ r .thread ∷ r .pc ∷ r .cells ∷ r .fp ∷ r .free ∷ r .threads ∷ r .mutexes ∷ r .conditions
+    ∷ r .semaphores ∷ []
 
 -- and back
 abbrev pub registersOf : List ℕ → Registers
@@ -26,6 +27,7 @@ registersOf l =
       threads = getD l 7 0;
       mutexes = getD l 8 0;
       conditions = getD l 9 0;
+      semaphores = getD l 10 0;
     }
 
 there-and-back : (r : Registers) → registersOf (listOf r) ≡ r

@@ -4,7 +4,7 @@ ghost use Rattle.lists.specs.Lists.{answerList, listOf, registersOf};
 use machine::Answer;
 use machine::Registers;
 
-pub fn take_registers(list: &[usize; 10]) -> Registers
+pub fn take_registers(list: &[usize; 11]) -> Registers
     ensures { λ r. ⌜ r ≡ registersOf (now (list .entry)) ⌝ }
 {
     Registers {
@@ -18,10 +18,11 @@ pub fn take_registers(list: &[usize; 10]) -> Registers
         threads: list[7],
         mutexes: list[8],
         conditions: list[9],
+        semaphores: list[10],
     }
 }
 
-pub fn list_of(r: Registers) -> [usize; 10]
+pub fn list_of(r: Registers) -> [usize; 11]
     ensures { λ l. ⌜ l ≡ listOf r ⌝ }
 {
     [
@@ -35,6 +36,7 @@ pub fn list_of(r: Registers) -> [usize; 10]
         r.threads,
         r.mutexes,
         r.conditions,
+        r.semaphores,
     ]
 }
 

@@ -11,7 +11,7 @@ use lib.IntN.{pos}
 use lib.ListN.{length, drop, length-append, length-drop}
 use lib.Seq.{drop-append-le, drop-drop}
 use borrow.Author.Tests.{eq-eqb, ne-eqb, lt-ltb}
-use Rattle.machine.specs.Book.{Book, Entry, Event, fed, namesLeft, locks, unlocks, creates, ends}
+use Rattle.machine.specs.Book.{Book, Entry, Event, Permits, fed, namesLeft, locks, unlocks, creates, ends, withPermits}
 use Rattle.machine.specs.Demand.{holderOf}
 use Rattle.machine.specs.Lists.{count}
 use Rattle.machine.specs.Size.{mutexLimit}
@@ -60,6 +60,10 @@ module _ (size : ℕ) (tables : Tables) (book : Book) (b : Booked size tables bo
               queue-kept tables t p (atMutex m) below (λ e. to m h (sym e)) (from m h),
             );
       }
+
+  -- what the book holds of semaphores is another matter
+  pub booked-permits : (permits : Permits) → Booked size tables (withPermits book permits)
+  booked-permits permits = record { alive = b .alive; counted = b .counted; ordered = b .ordered }
 
   -- tables with the same places, owners and queues
   pub booked-same : (next : Tables) → next .places ≡ tables .places → next .owners ≡ tables .owners →

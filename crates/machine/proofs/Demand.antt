@@ -10,7 +10,7 @@ use Rattle.card.specs.Image.{readOf}
 use Rattle.card.specs.declared.reader.Reading.the-variants as reading
 use Rattle.machine.specs.Book.{Book, blank, bookOf}
 use Rattle.machine.specs.Calls.{Box, boxOf, stateOf}
-use Rattle.machine.specs.Demand.{Call, Demand3, DemandFor, Each, Fitting, NotDamaged, callOf, imageOf, played}
+use Rattle.machine.specs.Demand.{AfterCalls, Call, Demand3, DemandFor, Each, Fitting, NotDamaged, callOf, imageOf, played}
 use Rattle.machine.specs.Size.{full}
 use Rattle.machine.specs.State.{start}
 use Rattle.machine.specs.declared.answers.Answer.the-variants.{Refused}
@@ -44,9 +44,9 @@ one-call size card cells e call (inr bad) before book h =
     seven a b p k = cc
 
 -- what a list of calls leaves
-record Led (size : ℕ) (book : Book) (calls : List Call) (before : Box) : Type 0 where
-  box : Held size (played size calls before .box) (bookOf book (played size calls before .trace))
-  answers : Each NotDamaged (played size calls before .answers)
+pub record Led (size : ℕ) (book : Book) (calls : List Call) (before : Box) : Type 0 where
+  pub box : Held size (played size calls before .box) (bookOf book (played size calls before .trace))
+  pub answers : Each NotDamaged (played size calls before .answers)
 
 list : (size : ℕ) (card : List ℕ) (cells : ℕ) → readOf card ≡ reading.Accepted cells → (calls : List Call) → Each (Fitting card) calls →
     (before : Box) (book : Book) → Held size before book → Led size book calls before
@@ -60,17 +60,18 @@ list size card cells e (call ∷ rest) all before book h =
       answers = (one .answer, more .answers);
     }
 
-pub demand-for : (size : ℕ) → 1 ≤ size → DemandFor size
-demand-for size some card cells lent calls e fits store tables values all =
+-- after set-up
+pub led-for : (size : ℕ) → 1 ≤ size → AfterCalls size (λ card calls box. Led size blank calls box)
+led-for size some card cells lent calls e fits store tables values all =
     let a = accepts card cells e in
     let least : 1 ≤ cells = rw (a .globals) at (a .sized .cells .some) in
-    let up = set-up size card cells lent some e fits store tables values in
-    let led = list size card cells e calls all (boxOf (start size cells)) blank (held size (start size cells) blank (start-right size some cells least fits)) in
-    rw up
-    (record {
-      fair = fair size (stateOf size (played size calls (boxOf (start size cells)) .box)) (bookOf blank (played size calls (boxOf (start size cells)) .trace)) (led .box .right);
-      sound = led .answers;
-    })
+    rw (set-up size card cells lent some e fits store tables values)
+    (list size card cells e calls all (boxOf (start size cells)) blank (held size (start size cells) blank (start-right size some cells least fits)))
+
+pub demand-for : (size : ℕ) → 1 ≤ size → DemandFor size
+demand-for size some card cells lent calls e fits store tables values all =
+    let led = led-for size some card cells lent calls e fits store tables values all in
+    record { fair = fair size _ _ (led .box .right); sound = led .answers }
 
 -- the paper's box
 pub demand3 : Demand3

@@ -7,7 +7,7 @@ use lib.IntN.{ℤ, pos, negℤ, _+ℤ_, _-ℤ_, _*ℤ_}
 use lib.ListN.{set, replicate}
 use lib.Seq.{sets}
 use lib.Signed.{leZ, ltZ, quotZ, remZ}
-use Rattle.machine.specs.Execution.{Outcome, aCondition, aMutex, aThread, binary, compared, conditionMade, creating, division, done, ending, eqZ, exec, fault, finalizing, fits, frameCell, fresh, joining, locking, mutexMade, needs, popped, pushed, replaced, returning, rooms, truth, unlocking, waiting, within}
+use Rattle.machine.specs.Execution.{Outcome, aCondition, aMutex, aSemaphore, aThread, binary, compared, conditionMade, creating, division, done, ending, eqZ, exec, fault, finalizing, fits, frameCell, fresh, joining, locking, lowering, mutexMade, needs, opening, popped, pushed, raising, replaced, returning, rooms, truth, unlocking, waiting, within}
 use Rattle.machine.specs.Instructions.{Instruction}
 use Rattle.machine.specs.Instructions as instr
 use Rattle.machine.specs.Registers.{halted, stopped, withCells, withFp, withPc, withState}
@@ -196,3 +196,15 @@ module _ (size n : ℕ) (s : State) where
       ≡ needs 1 (s .regs .cells) (aCondition size n s (top size s) λ c. done (withTables (popped size n s 1) (wakeAll (s .tables) (atCondition size c))))
   unfolding exec
   broadcast-is = refl
+
+  pub newsema-is : exec size n s instr.newsema ≡ needs 1 (s .regs .cells) (opening size n s (top size s))
+  unfolding exec
+  newsema-is = refl
+
+  pub up-is : exec size n s instr.up ≡ needs 1 (s .regs .cells) (aSemaphore size n s (top size s) (raising size n s))
+  unfolding exec
+  up-is = refl
+
+  pub down-is : exec size n s instr.down ≡ needs 1 (s .regs .cells) (aSemaphore size n s (top size s) (lowering size n s))
+  unfolding exec
+  down-is = refl

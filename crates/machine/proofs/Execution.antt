@@ -6,27 +6,30 @@ use mathlib.Core.List.{List}
 use mathlib.Core.Logic.{_≢_}
 use native.Mathlib.Omega.{arith}
 use lib.Dec.{eqb, leb, lit≤, ltb}
-use lib.IntN.{ℤ, pos, negsuc}
+use lib.IntN.{ℤ, pos, negsuc, _+ℤ_, _-ℤ_}
 use lib.ListN.{length, getD, set, replicate, length-set}
 use lib.Seq.{getD-set-same, length-sets}
-use borrow.Author.Tests.{eqb-true, eqb-false, leb-true, ltb-true}
-use Rattle.machine.specs.Book.{Book, eventOf, fed}
+use lib.Signed.{leZ, ltZ}
+use borrow.Author.Tests.{eqb-true, eqb-false, leb-true, leb-false, ltb-true, ltb-false}
+use Rattle.machine.specs.Book.{Book, eventOf, fed, permitted}
 use Rattle.machine.specs.Book as event
-use Rattle.machine.specs.Execution.{Outcome, ending, eqZ, exec, fault, frame, fresh, owns}
+use Rattle.machine.specs.Execution.{Outcome, ending, eqZ, exec, fault, frame, fresh, lowered, opening, owns, raised}
 use Rattle.machine.specs.Instructions.{Instruction}
 use Rattle.machine.specs.Instructions as instr
 use Rattle.machine.specs.Plain.{Frame}
-use Rattle.machine.specs.Registers.{withPc, withCells, withFp, withFree, withMade}
-use Rattle.machine.specs.Size.{conditionLimit, mutexLimit, shared, stackAt, storeSize}
-use Rattle.machine.specs.State.{State, below, cell, ends, minusOne, newCells, newFp, newStack, top, withRegs, withStore}
+use Rattle.machine.specs.Registers.{withPc, withCells, withFp, withFree, withMade, withSemaphores}
+use Rattle.machine.specs.Size.{conditionLimit, mutexLimit, semaphoreLimit, shared, stackAt, storeSize}
+use Rattle.machine.specs.State.{State, below, cell, ends, minusOne, newCells, newFp, newStack, semaphoreCount, top, withRegs, withStore}
 use Rattle.machine.specs.Tables.{Tables, atCondition, atEnd, atMutex, ended, ownerOf, ownsAny, placeOf, ready, saved, sent}
 use Rattle.machine.proofs.Booked.{entry}
-use Rattle.machine.proofs.Changes.{Both, gives, makes, saves, takes, wakes-all, wakes-first}
+use Rattle.machine.proofs.Changes.{Both, aside-condition, aside-end, aside-ready, gives, lowers, makes, opens-next, raises, raises-first, saves, takes, wakes-all, wakes-first}
 use Rattle.machine.proofs.Every.{and-first, and-second}
+use Rattle.machine.proofs.Lists.{cases}
 use Rattle.machine.proofs.Moves.{awaited-end, awaited-low, counts-grow}
 use Rattle.machine.proofs.Outcomes.{Ends, ends-cond, ends-divides, ends-fits, ends-needs, ends-rooms, ends-within}
+use Rattle.machine.proofs.Permits.{Counted, counted-downed, counted-opened, counted-upped, down-sign, fed-creates, fed-downs, fed-locks, fed-opens, fed-unlocks, fed-ups, nobody-left, up-sign}
 use Rattle.machine.proofs.Queues.{saved-depth, saved-frame, saved-pc}
-use Rattle.machine.proofs.Steady.{Landed, Runs, active-landed, blocked-right, ends-right, lock-blocked, wait-right}
+use Rattle.machine.proofs.Steady.{Landed, Runs, active-landed, blocked-right, down-blocked, ends-right, lock-blocked, wait-right}
 use Rattle.machine.proofs.Targets.{targetOf}
 
 module _ (size n : ℕ) (s : State) (book : Book) (y : Runs size s book) (short : n ≤ 4096) where
@@ -48,6 +51,7 @@ module _ (size n : ℕ) (s : State) (book : Book) (y : Runs size s book) (short 
         free-most = most;
         stored = same ∙ y .steady .stored;
         valued = y .steady .valued;
+        counted = y .steady .counted;
       })
       (record { runs = y .marked .runs; sound = y .marked .sound })
       (y .some)
@@ -226,6 +230,7 @@ module _ (size n : ℕ) (s : State) (book : Book) (y : Runs size s book) (short 
                     free-most = y .steady .free-most;
                     stored = y .steady .stored;
                     valued = y .steady .valued;
+                    counted = y .steady .counted;
                   };
               mode =
                   record {
@@ -277,17 +282,10 @@ module _ (size n : ℕ) (s : State) (book : Book) (y : Runs size s book) (short 
   unfolding exec
   exec-return = ends-cond _ (ltb (s .regs .fp) (s .regs .cells)) _ _ (λ e. returns _ refl) (λ e. refl)
 
-  -- the place of a condition, or of a thread's end, is no mutex's
-  no-mutex-c : (c m : ℕ) → m < mutexLimit size → atCondition size c ≢ atMutex m
-  no-mutex-c c m h e = omega (arith, e)
-
-  no-mutex-e : (t m : ℕ) → m < mutexLimit size → atEnd size t ≢ atMutex m
-  no-mutex-e t m h e = omega (arith, e)
-
   exec-yield : Done instr.yield
   unfolding exec eventOf fed
   exec-yield =
-      blocked-right size s book y ready (omega arith) (λ m h e. omega (arith, e)) (awaited-low ready (omega arith))
+      blocked-right size s book y ready (omega arith) aside-ready (awaited-low ready (omega arith))
 
   exec-join : Done instr.join
   unfolding exec eventOf fed
@@ -299,7 +297,7 @@ module _ (size n : ℕ) (s : State) (book : Book) (y : Runs size s book) (short 
       ends-cond _ (eqb (placeOf (s .tables) t) ended) _ _
       (λ k. active-landed size s book (y .steady) (y .marked) (y .some))
       (λ k.
-      blocked-right size s book y (atEnd size t) (omega arith) (no-mutex-e t) (awaited-end t made (eqb-false _ _ k)))))
+      blocked-right size s book y (atEnd size t) (omega arith) (aside-end t) (awaited-end t made (eqb-false _ _ k)))))
 
   exec-finalize : Done instr.finalize
   unfolding exec eventOf fed
@@ -310,10 +308,10 @@ module _ (size n : ℕ) (s : State) (book : Book) (y : Runs size s book) (short 
       (λ t e made. ends-cond _ (eqb (placeOf (s .tables) t) ended) _ _ (λ k. poke _ _) (λ k. refl)))
 
   -- other tables, a book that was fed, and other counts, with the thread still running
-  changed : (store : List ℤ) (tables : Tables) (cells threads mutexes conditions : ℕ) (book′ : Book) → length store ≡ length (s .store) → cells ≤ 128 →
-      Both size threads mutexes conditions (s .regs .thread) tables book′ →
+  changed : (store : List ℤ) (tables : Tables) (cells threads mutexes conditions : ℕ) (book′ : Book) → book′ .permits ≡ book .permits →
+      length store ≡ length (s .store) → cells ≤ 128 → Both size threads mutexes conditions (s .regs .semaphores) (s .regs .thread) tables book′ →
       Landed size (record { store = store; tables = tables; values = s .values; regs = withMade (withCells (s .regs) cells) threads mutexes conditions }) book′
-  changed store tables cells threads mutexes conditions book′ same h b =
+  changed store tables cells threads mutexes conditions book′ permits same h b =
       active-landed size _ book′
       (record {
         both = b;
@@ -322,14 +320,29 @@ module _ (size n : ℕ) (s : State) (book : Book) (y : Runs size s book) (short 
         free-most = y .steady .free-most;
         stored = same ∙ y .steady .stored;
         valued = y .steady .valued;
+        counted = rw permits (y .steady .counted);
       })
       (record { runs = y .marked .runs; sound = y .marked .sound })
       (y .some)
 
-  -- the counts grow
+  -- the counts of mutexes and conditions grow
   grown : (mutexes conditions : ℕ) → s .regs .mutexes ≤ mutexes → mutexes ≤ mutexLimit size → s .regs .conditions ≤ conditions → conditions ≤ conditionLimit size →
-      Both size (s .regs .threads) mutexes conditions (s .regs .thread) (s .tables) book
-  grown mutexes conditions a b c d = record { kempt = counts-grow (y .steady .both .kempt) mutexes conditions a b c d; booked = y .steady .both .booked }
+      Both size (s .regs .threads) mutexes conditions (s .regs .semaphores) (s .regs .thread) (s .tables) book
+  grown mutexes conditions a b c d =
+      let fit = y .steady .both .kempt .tidy .counts in
+      record {
+        kempt =
+            counts-grow (y .steady .both .kempt) mutexes conditions (s .regs .semaphores) a c (omega arith)
+            (record {
+              some-thread = fit .some-thread;
+              threads-fit = fit .threads-fit;
+              mutexes-fit = b;
+              conditions-fit = d;
+              semaphores-fit = fit .semaphores-fit;
+            });
+        booked = y .steady .both .booked;
+        passing = y .steady .both .passing;
+      }
 
   exec-newmutex : Done instr.newmutex
   unfolding exec eventOf fed
@@ -339,7 +352,7 @@ module _ (size n : ℕ) (s : State) (book : Book) (y : Runs size s book) (short 
       ends-cond _ (ltb (s .regs .mutexes) (mutexLimit size)) _ _
       (λ e.
       let less : s .regs .mutexes < mutexLimit size = ltb-true _ _ e in
-      changed _ _ _ _ _ _ book (one-set _ _) h
+      changed _ _ _ _ _ _ book refl (one-set _ _) h
       (grown (s .regs .mutexes + 1) (s .regs .conditions) (omega arith) (omega arith) (omega arith) (y .steady .both .kempt .tidy .counts .conditions-fit)))
       (λ e. push _ h))
 
@@ -351,7 +364,7 @@ module _ (size n : ℕ) (s : State) (book : Book) (y : Runs size s book) (short 
       ends-cond _ (ltb (s .regs .conditions) (conditionLimit size)) _ _
       (λ e.
       let less : s .regs .conditions < conditionLimit size = ltb-true _ _ e in
-      changed _ _ _ _ _ _ book (one-set _ _) h
+      changed _ _ _ _ _ _ book refl (one-set _ _) h
       (grown (s .regs .mutexes) (s .regs .conditions + 1) (omega arith) (y .steady .both .kempt .tidy .counts .mutexes-fit) (omega arith) (omega arith)))
       (λ e. push _ h))
 
@@ -369,6 +382,7 @@ module _ (size n : ℕ) (s : State) (book : Book) (y : Runs size s book) (short 
               free-most = y .steady .free-most;
               stored = y .steady .stored;
               valued = y .steady .valued;
+              counted = y .steady .counted;
             };
         marked = record { runs = y .marked .runs; sound = y .marked .sound };
         some = y .some;
@@ -382,7 +396,7 @@ module _ (size n : ℕ) (s : State) (book : Book) (y : Runs size s book) (short 
       ends-within _ _ _ _ _ refl
       (λ m e made.
       ends-cond _ (eqb (ownerOf (s .tables) m) size) _ _
-      (λ k. rw e (changed _ _ _ _ _ _ _ refl (omega (arith, room)) (takes (y .steady .both) m (y .some) made (eqb-true _ _ k))))
+      (λ k. rw e (changed _ _ _ _ _ _ _ (fed-locks book (s .regs .thread) m) refl (omega (arith, room)) (takes (y .steady .both) m (y .some) made (eqb-true _ _ k))))
       (λ k. rw e (lock-blocked size _ book popped-runs m made (eqb-false _ _ k)))))
 
   -- 28 is not given: the mutex is owned by the running thread
@@ -401,7 +415,7 @@ module _ (size n : ℕ) (s : State) (book : Book) (y : Runs size s book) (short 
       ends-within _ _ _ _ _ refl
       (λ m e made.
       ends-owns _ m _
-      (λ held. rw e (changed _ _ _ _ _ _ _ refl (omega (arith, room)) (gives (y .steady .both) m (s .regs .thread) made held)))))
+      (λ held. rw e (changed _ _ _ _ _ _ _ (fed-unlocks book (s .regs .thread) m) refl (omega (arith, room)) (gives (y .steady .both) m (s .regs .thread) made held)))))
 
   exec-wait : Done instr.wait
   unfolding exec eventOf
@@ -413,13 +427,17 @@ module _ (size n : ℕ) (s : State) (book : Book) (y : Runs size s book) (short 
       ends-within _ _ _ _ _ refl
       (λ m i made-m. ends-owns _ m _ (λ held. rw i (wait-right size _ book popped-runs c m made-c made-m held)))))
 
+  -- a condition that was made is one of the box
+  within-limit : (c : ℕ) → c < s .regs .conditions → c < conditionLimit size
+  within-limit c made = omega (arith, y .steady .both .kempt .tidy .counts .conditions-fit)
+
   exec-signal : Done instr.signal
   unfolding exec eventOf fed
   exec-signal =
       ends-needs _ 1 _ _
       (λ h.
       ends-within _ _ _ _ _ refl
-      (λ c e made. changed _ _ _ _ _ _ book refl (omega (arith, room)) (wakes-first (y .steady .both) (atCondition size c) (omega arith) (no-mutex-c c))))
+      (λ c e made. changed _ _ _ _ _ _ book refl refl (omega (arith, room)) (wakes-first (y .steady .both) (atCondition size c) (omega arith) (aside-condition c (within-limit c made)))))
 
   exec-broadcast : Done instr.broadcast
   unfolding exec eventOf fed
@@ -427,7 +445,98 @@ module _ (size n : ℕ) (s : State) (book : Book) (y : Runs size s book) (short 
       ends-needs _ 1 _ _
       (λ h.
       ends-within _ _ _ _ _ refl
-      (λ c e made. changed _ _ _ _ _ _ book refl (omega (arith, room)) (wakes-all (y .steady .both) (atCondition size c) (omega arith) (no-mutex-c c) .0)))
+      (λ c e made. changed _ _ _ _ _ _ book refl refl (omega (arith, room)) (wakes-all (y .steady .both) (atCondition size c) (omega arith) (aside-condition c (within-limit c made)) .0)))
+
+  -- ---- semaphores
+
+  -- other tables, values, semaphores made and a book that was fed, with the thread still running
+  recounted : (store : List ℤ) (tables : Tables) (values : List ℤ) (cells semaphores : ℕ) (book′ : Book) → length store ≡ length (s .store) →
+      length values ≡ length (s .values) → cells ≤ 128 → Counted size values semaphores (book′ .permits) →
+      Both size (s .regs .threads) (s .regs .mutexes) (s .regs .conditions) semaphores (s .regs .thread) tables book′ →
+      Landed size (record { store = store; tables = tables; values = values; regs = withSemaphores (withCells (s .regs) cells) semaphores }) book′
+  recounted store tables values cells semaphores book′ same long h counted b =
+      active-landed size _ book′
+      (record {
+        both = b;
+        frame = resized cells h;
+        free-least = y .steady .free-least;
+        free-most = y .steady .free-most;
+        stored = same ∙ y .steady .stored;
+        valued = long ∙ y .steady .valued;
+        counted = counted;
+      })
+      (record { runs = y .marked .runs; sound = y .marked .sound })
+      (y .some)
+
+  -- what newsema puts on top is top afterwards
+  replaced-top : (v : ℤ) → 1 ≤ s .regs .cells →
+      getD (set (s .store) (stackAt size (s .regs .thread) (s .regs .cells - 1)) v) (stackAt size (s .regs .thread) (s .regs .cells - 1)) (pos 0) ≡ v
+  replaced-top v h =
+      let t = y .steady .both .kempt .tidy in
+      getD-set-same (s .store) (stackAt size (s .regs .thread) (s .regs .cells - 1)) v (pos 0)
+      (omega (arith, t .runner (y .some) .0, t .counts .threads-fit, room, y .steady .stored))
+
+  exec-newsema : Done instr.newsema
+  unfolding exec eventOf opening
+  exec-newsema = ends-needs _ 1 _ _ (λ h. opened (top size s) refl h)
+    where
+      opened : (v : ℤ) → v ≡ top size s → 1 ≤ s .regs .cells → Ends (Leaves instr.newsema) (opening size n s v)
+      opened (pos k) e h =
+          ends-cond (Leaves instr.newsema) (ltb (s .regs .semaphores) (semaphoreLimit size)) _ _
+          (λ r.
+          let less : s .regs .semaphores < semaphoreLimit size = ltb-true _ _ r in
+          rw (replaced-top (pos (s .regs .semaphores)) h, ← e)
+          (recounted _ _ _ _ _ _ (one-set _ _) (length-set (s .values) (size + s .regs .semaphores) (pos k)) room
+          (rw (fed-opens book (s .regs .thread) k (s .regs .semaphores)) (counted-opened (y .steady .counted) k less (y .steady .valued)))
+          (opens-next (y .steady .both) (s .regs .thread) k less)))
+          (λ r. rw (replaced-top minusOne h) (unfold fed in poke (s .regs .cells - 1) minusOne))
+      opened (negsuc k) e h = refl
+
+  -- a semaphore that was made is one of the box
+  semaphore-limit : (k : ℕ) → k < s .regs .semaphores → k < semaphoreLimit size
+  semaphore-limit k made = omega (arith, y .steady .both .kempt .tidy .counts .semaphores-fit)
+
+  up-right : (k : ℕ) → k < s .regs .semaphores →
+      Landed size (raised size n s k (semaphoreCount size (s .values) k +ℤ pos 1)) (fed book (entry (s .regs .thread) (event.ups k)))
+  up-right k made =
+      let count : ℤ = semaphoreCount size (s .values) k +ℤ pos 1 in
+      let limit = semaphore-limit k made in
+      let sign = up-sign (y .steady .counted) k made in
+      let counted : Counted size (set (s .values) (size + k) count) (s .regs .semaphores) (fed book (entry (s .regs .thread) (event.ups k)) .permits) =
+      rw (fed-ups book (s .regs .thread) k) (counted-upped (y .steady .counted) k made limit (y .steady .valued)) in
+      cases (leZ count (pos 0))
+      (λ b.
+      rw b
+      (recounted _ _ _ _ _ _ refl (length-set (s .values) (size + k) count) (omega (arith, room)) counted
+      (raises-first (y .steady .both) k made (s .regs .thread))))
+      (λ b.
+      let enough : length (book .permits .downs k) < permitted book k + 1 = leb-false _ _ (sym sign ∙ b) in
+      rw b
+      (recounted _ _ _ _ _ _ refl (length-set (s .values) (size + k) count) (omega (arith, room)) counted
+      (raises (y .steady .both) k made (s .regs .thread) (nobody-left (y .steady .both .passing) k limit (omega arith)))))
+
+  exec-up : Done instr.up
+  unfolding exec eventOf
+  exec-up = ends-needs _ 1 _ _ (λ h. ends-within _ _ _ _ _ refl (λ k e made. ends-fits _ _ _ (rw e (up-right k made))))
+
+  down-right : (k : ℕ) → k < s .regs .semaphores →
+      Landed size (lowered size n s k (semaphoreCount size (s .values) k -ℤ pos 1)) (fed book (entry (s .regs .thread) (event.downs k)))
+  down-right k made =
+      let count : ℤ = semaphoreCount size (s .values) k -ℤ pos 1 in
+      let limit = semaphore-limit k made in
+      let sign = down-sign (y .steady .counted) k made in
+      cases (ltZ count (pos 0))
+      (λ b. let full : permitted book k < length (book .permits .downs k) + 1 = ltb-true _ _ (sym sign ∙ b) in rw b (down-blocked size _ book popped-runs k made (omega arith)))
+      (λ b.
+      let enough : length (book .permits .downs k) + 1 ≤ permitted book k = ltb-false _ _ (sym sign ∙ b) in
+      rw b
+      (recounted _ _ _ _ _ _ refl (length-set (s .values) (size + k) count) (omega (arith, room))
+      (rw (fed-downs book (s .regs .thread) k) (counted-downed (y .steady .counted) k (s .regs .thread) made limit (y .steady .valued)))
+      (lowers (y .steady .both) k made (s .regs .thread) (omega arith))))
+
+  exec-down : Done instr.down
+  unfolding exec eventOf
+  exec-down = ends-needs _ 1 _ _ (λ h. ends-within _ _ _ _ _ refl (λ k e made. rw e (down-right k made)))
 
   -- what create pushes is top afterwards
   pushed-top : (store : List ℤ) (v : ℤ) → length store ≡ storeSize size → 2 ≤ s .regs .cells →
@@ -441,7 +550,7 @@ module _ (size n : ℕ) (s : State) (book : Book) (y : Runs size s book) (short 
 
   -- the new thread's registers are saved, and it joins the ready queue
   made-both : (pc : ℕ) → pc < n → s .regs .threads < size →
-      Both size (s .regs .threads + 1) (s .regs .mutexes) (s .regs .conditions) (s .regs .thread)
+      Both size (s .regs .threads + 1) (s .regs .mutexes) (s .regs .conditions) (s .regs .semaphores) (s .regs .thread)
       (sent (saved (s .tables) (s .regs .threads) pc newCells newFp) (s .regs .threads) ready)
       (fed book (entry (s .regs .thread) (event.creates (pos (s .regs .threads)))))
   made-both pc below less =
@@ -478,7 +587,7 @@ module _ (size n : ℕ) (s : State) (book : Book) (y : Runs size s book) (short 
       made : (pc : ℕ) → pc < n → 2 ≤ s .regs .cells → s .regs .threads < size → Leaves instr.create (after pc)
       made pc below h less =
           rw (pushed-top (newStack size (s .store) (s .regs .threads) (top size s)) (pos (s .regs .threads)) (simp length-set (y .steady .stored)) h)
-          (changed _ _ _ _ _ _ _ (simp length-set) (omega (arith, room)) (made-both pc below less))
+          (changed _ _ _ _ _ _ _ (fed-creates book (s .regs .thread) (pos (s .regs .threads))) (simp length-set) (omega (arith, room)) (made-both pc below less))
 
   -- every instruction, where a jump goes to an instruction of the card
   pub exec-right : (i : Instruction) → targetOf i < n → Done i
@@ -521,3 +630,6 @@ module _ (size n : ℕ) (s : State) (book : Book) (y : Runs size s book) (short 
   exec-right instr.wait t = exec-wait
   exec-right instr.signal t = exec-signal
   exec-right instr.broadcast t = exec-broadcast
+  exec-right instr.newsema t = exec-newsema
+  exec-right instr.up t = exec-up
+  exec-right instr.down t = exec-down

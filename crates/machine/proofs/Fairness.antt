@@ -61,13 +61,13 @@ module _ (size : ℕ) (s : State) (book : Book) (r : Right size s book) where
       rw (ne-eqb (s .regs .thread) size (λ k. omega (arith, e, k)), ← e, count-cons t t [], one-if-same t, count-nil t)
 
   -- a place is below the last
-  bounded : (t : ℕ) → t < size → placeOf (s .tables) t < 4 + 5 * size
+  bounded : (t : ℕ) → t < size → placeOf (s .tables) t < 4 + 6 * size
   bounded t below =
-      less-or-not (placeOf (s .tables) t) (4 + 4 * size)
+      less-or-not (placeOf (s .tables) t) (4 + 5 * size)
       (λ k. omega arith)
       (λ k.
       let y = r .steady .both .kempt .tidy in
-      let end = y .placed t below .awaited .for-end (placeOf (s .tables) t - (4 + 4 * size)) (omega arith) in
+      let end = y .placed t below .awaited .for-end (placeOf (s .tables) t - (4 + 5 * size)) (omega arith) in
       omega (arith, end .0, y .counts .threads-fit))
 
   one-place : (t : ℕ) → placesOf size s t ≡ cond (book .living t) 1 0
@@ -81,20 +81,20 @@ module _ (size : ℕ) (s : State) (book : Book) (r : Right size s book) where
       less-or-not (placeOf (s .tables) t) active
       (λ low.
       let apart : t ≢ s .regs .thread = λ e. let q = y .runner (λ k. omega (arith, e, k)) in let mine : placeOf (s .tables) t ≡ active = ap (placeOf (s .tables)) e ∙ q .1 in omega arith in
-      rw (idle t below apart, waits-none (s .tables) t ready (1 + 5 * size) (λ q a b c. omega (arith, c)), le-ltb ended (placeOf (s .tables) t) (omega arith)))
+      rw (idle t below apart, waits-none (s .tables) t ready (1 + 6 * size) (λ q a b c. omega (arith, c)), le-ltb ended (placeOf (s .tables) t) (omega arith)))
       (λ high.
       same-or-not (placeOf (s .tables) t) active
-      (λ e. rw (busy t (p .only-run e) below, waits-none (s .tables) t ready (1 + 5 * size) (λ q a b c. omega (arith, c, e)), lt-ltb ended (placeOf (s .tables) t) (omega arith)))
+      (λ e. rw (busy t (p .only-run e) below, waits-none (s .tables) t ready (1 + 6 * size) (λ q a b c. omega (arith, c, e)), lt-ltb ended (placeOf (s .tables) t) (omega arith)))
       (λ e.
       let apart : t ≢ s .regs .thread = λ k. let q = y .runner (λ j. omega (arith, k, j)) in e (ap (placeOf (s .tables)) k ∙ q .1) in
       rw (
         idle t below apart,
-        waits-one (s .tables) t ready (1 + 5 * size) (y .line .once t below) (omega arith) (omega (arith, bounded t below)),
+        waits-one (s .tables) t ready (1 + 6 * size) (y .line .once t below) (omega arith) (omega (arith, bounded t below)),
         lt-ltb ended (placeOf (s .tables) t) (omega arith),
       ))))
       (λ past.
       let none : placeOf (s .tables) t ≡ 0 = List·getD-eq-default (s .tables .places) 0 (rw (r .steady .both .kempt .sizes .places) past) in
-      rw (outside t past, waits-none (s .tables) t ready (1 + 5 * size) (λ q a b c. omega (arith, c, none)), none)))
+      rw (outside t past, waits-none (s .tables) t ready (1 + 6 * size) (λ q a b c. omega (arith, c, none)), none)))
 
   -- nobody waits for a free mutex
   unawaited : (m : ℕ) → m < mutexLimit size → ownerOf (s .tables) m ≡ size → queue (s .tables) (atMutex m) ≡ []

@@ -1,7 +1,7 @@
 -- A box that calls leave: right, and of the right sizes. A call with the card goes on, and one with a refused image changes nothing.
 -- Assumes nothing.
-use Prim.Native.Nat.{ℕ, _*_, _≤_}
-use mathlib.Core.Path.{_≡_}
+use Prim.Native.Nat.{ℕ, _+_, _*_, _<_, _≤_}
+use mathlib.Core.Path.{_≡_, sym}
 use mathlib.Core.Bool.{Bool, true, false, cond}
 use mathlib.Core.List.{List}
 use mathlib.Core.Logic.{_≢_}
@@ -15,19 +15,21 @@ use Rattle.card.specs.Code.{firstBad, wordsOf}
 use Rattle.card.specs.Image.{countOf, lastOf, readOf}
 use Rattle.card.specs.declared.scan.Scan.the-variants as scan
 use Rattle.card.specs.declared.reader.Reading.the-variants as reading
-use Rattle.machine.specs.Book.{Book, bookOf}
+use Rattle.machine.specs.Book.{Book, Permits, bookOf}
 use Rattle.machine.specs.Calls.{Box, Called, accepted, answerOf, boxOf, cardOf, ranOf, refused, runCall, setUp, stateOf, stepCall, storeFits}
 use Rattle.machine.specs.Registers.{faulted, running, stuck}
 use Rattle.machine.specs.declared.answers.Answer.the-variants.{Faulted, Halted, Refused, Running, Stuck}
 use Rattle.machine.specs.Demand.{Call, callOf, imageOf, stepOn, runOn}
 use Rattle.machine.specs.Plain.{Formed}
-use Rattle.machine.specs.Size.{shared, storeSize, tablesSize, valuesSize}
-use Rattle.machine.specs.State.{State, start}
+use Rattle.machine.specs.Size.{semaphoreLimit, shared, storeSize, tablesSize, valuesSize}
+use Rattle.machine.specs.State.{State, semaphoreCount, start}
 use Rattle.machine.specs.Step.{Ran, run, step}
-use Rattle.machine.specs.Tables.{tablesOf}
-use Rattle.machine.specs.WellFormed.{tablesFit, wellFormed}
+use Rattle.machine.specs.Tables.{atSemaphore, queue, tablesOf}
+use Rattle.machine.specs.WellFormed.{shortfall, tablesFit, wellFormed}
 use Rattle.machine.proofs.Every.{true-and}
+use Rattle.machine.proofs.Permits.{short}
 use Rattle.machine.proofs.Plain.{tested}
+use Rattle.machine.proofs.Queues.{queue-short}
 use Rattle.machine.proofs.Slices.{length-slice, tables-slice}
 use Rattle.machine.proofs.Steady.{Right}
 use Rattle.machine.proofs.Steps.{After, run-right, step-right}
@@ -53,14 +55,29 @@ card-of image cells e =
 
 -- ---- boxes
 
+-- "the number waiting is the larger of 0 and minus the count"
+pub level : (size : ℕ) (s : State) (book : Book) → Right size s book → (k : ℕ) → k < s .regs .semaphores →
+    length (queue (s .tables) (atSemaphore size k)) ≡ shortfall (semaphoreCount size (s .values) k)
+level size s book r k made =
+    let p : Permits = book .permits in
+    let limit : k < semaphoreLimit size = omega (arith, r .steady .both .kempt .tidy .counts .semaphores-fit) in
+    rw (r .steady .both .passing .left k limit, length-drop (p .starting k + p .ups k) (p .downs k), r .steady .counted .count k made)
+    (sym (short (p .starting k + p .ups k) (length (p .downs k))))
+
+-- .. which is at most the number of threads
+pub few-wait : (size : ℕ) (s : State) (book : Book) → Right size s book → (k : ℕ) → k < s .regs .semaphores → shortfall (semaphoreCount size (s .values) k) ≤ size
+few-wait size s book r k made =
+    rw (← (level size s book r k made)) (omega (arith, queue-short (s .tables) (atSemaphore size k), r .steady .both .kempt .sizes .line))
+
 -- the plain reading of a right machine
-pub right-formed : (size : ℕ) (s : State) (book : Book) → Right size s book → Formed size (s .regs) (s .tables)
+pub right-formed : (size : ℕ) (s : State) (book : Book) → Right size s book → Formed size (s .regs) (s .tables) (s .values)
 right-formed size s book r =
     record {
       tidy = r .steady .both .kempt .tidy;
       frame = r .steady .frame;
       free-least = r .steady .free-least;
       free-most = r .steady .free-most;
+      levels = level size s book r;
       mode = r .mode;
       number = r .number;
     }
@@ -91,7 +108,7 @@ unfolding wellFormed
 held-formed size box book h =
     true-and (tablesFit size (box .tables) (box .values)) _
     (true-and (eqb (length (box .tables)) (tablesSize size)) _ (eq-eqb _ _ (h .sized)) (eq-eqb _ _ (h .right .steady .valued)))
-    (tested size (box .regs) (tablesOf size (box .tables)) (right-formed size (stateOf size box) book (h .right)))
+    (tested size (box .regs) (tablesOf size (box .tables)) (box .values) (right-formed size (stateOf size box) book (h .right)))
 
 -- a call on such a box goes on
 pub goes-on : (size : ℕ) (box : Box) (book : Book) (ran : Ran) → Held size box book → accepted size box ran ≡ ranOf ran

@@ -1,10 +1,11 @@
 -- What a call keeps, and what a refusal and a fault change: the first laws of specs/Laws.antt. Assumes nothing.
-use Prim.Native.Nat.{ℕ, _≤_}
+use Prim.Native.Nat.{ℕ, _<_, _≤_}
 use mathlib.Core.Path.{_≡_, refl}
 use mathlib.Core.List.{List, [], _∷_, _++_}
 use mathlib.Core.Logic.{_⊎_, _≢_, inl, inr}
 use native.Mathlib.Omega.{arith}
 use lib.Dec.{eqb, ltb}
+use lib.IntN.{ℤ}
 use lib.ListN.{length, getD}
 use borrow.Author.Tests.{eq-eqb, eqb-true}
 use Rattle.card.proofs.Header.{accepts}
@@ -17,17 +18,21 @@ use Rattle.machine.specs.Demand.{Call, callOf, holderOf, imageOf, runOn,
 use Rattle.machine.specs.Execution.{Outcome, done, exec, fault}
 use Rattle.machine.specs.Instructions.{Instruction, decoded}
 use Rattle.machine.specs.Laws.{FaultKeeps, FaultNumbers, KeepsFormed, RefusedKeeps, RefusedSetUp, SetUpForms, Sound}
+use Rattle.machine.specs.Plain.{Formed}
 use Rattle.machine.specs.Registers.{stopped, zeros}
-use Rattle.machine.specs.Size.{tablesSize}
+use Rattle.machine.specs.Size.{semaphoreLimit, tablesSize}
 use Rattle.machine.specs.State.{State, start, withRegs}
 use Rattle.machine.specs.Step.{carried, entered, onward, run}
-use Rattle.machine.specs.Tables.{Tables, atMutex, lives, queue, tablesOf}
+use Rattle.machine.specs.Tables.{Tables, atMutex, atSemaphore, lives, queue, tablesOf}
 use Rattle.machine.specs.WellFormed.{formed, tablesFit, wellFormed}
 use Rattle.machine.specs.declared.answers.Answer.the-variants.{Refused, Running}
+use Rattle.machine.specs.declared.registers.Registers.{Registers}
 use Rattle.machine.proofs.Every.{and-first, and-second}
 use Rattle.machine.proofs.Held.{Held, card-call, card-of, held, held-formed, held-store, set-up}
-use Rattle.machine.proofs.Lists.{cases}
+use Rattle.machine.proofs.Lists.{cases, less-or-not}
+use Rattle.machine.proofs.Permits.{permits-counted, permits-passing, permitsFor}
 use Rattle.machine.proofs.Plain.{plain}
+use Rattle.machine.proofs.Queues.{no-queue}
 use Rattle.machine.proofs.Runs.{run-done, run-misfit, run-unformed, run-unread, step-is-run}
 use Rattle.machine.proofs.Slices.{slice-sizes}
 use Rattle.machine.proofs.Start.{start-right}
@@ -44,7 +49,17 @@ bookFor size box =
       living = lives tables;
       names = λ m. holderOf size tables m ++ queue tables (atMutex m);
       releases = λ m. 0;
+      permits = permitsFor size (box .regs .semaphores) tables (box .values);
     }
+
+-- nobody waits for a semaphore that isn't made
+unawaited : (size : ℕ) (r : Registers) (tables : Tables) (values : List ℤ) → Formed size r tables values →
+    (k : ℕ) → k < semaphoreLimit size → r .semaphores ≤ k → queue tables (atSemaphore size k) ≡ []
+unawaited size r tables values f k h past =
+    no-queue tables (atSemaphore size k)
+    (λ t there e.
+    let below : t < size = less-or-not t size (λ i. i) (λ i. absurd (omega (arith, f .tidy .line .no-other t i))) in
+    omega (arith, f .tidy .placed t below .awaited .for-semaphore k h e))
 
 -- a box that 6 and 7 let through is right beside that book
 pub sound-held : (size : ℕ) (box : Box) → Sound size box → Held size box (bookFor size box)
@@ -52,7 +67,7 @@ unfolding wellFormed
 sound-held size box h =
     let fits = and-first (tablesFit size (box .tables) (box .values)) _ (h .formed) in
     let sized : length (box .tables) ≡ tablesSize size = eqb-true _ _ (and-first _ _ fits) in
-    let f = plain size (box .regs) (tablesOf size (box .tables)) (and-second (tablesFit size (box .tables) (box .values)) _ (h .formed)) in
+    let f = plain size (box .regs) (tablesOf size (box .tables)) (box .values) (and-second (tablesFit size (box .tables) (box .values)) _ (h .formed)) in
     record {
       right =
           record {
@@ -62,12 +77,14 @@ sound-held size box h =
                       record {
                         kempt = record { sizes = slice-sizes size (box .tables) sized; tidy = f .tidy };
                         booked = record { alive = λ t. refl; counted = λ m below. omega arith; ordered = λ m below. refl };
+                        passing = permits-passing size (box .regs .semaphores) (tablesOf size (box .tables)) (box .values) (f .levels) (unawaited size (box .regs) (tablesOf size (box .tables)) (box .values) f);
                       };
                   frame = f .frame;
                   free-least = f .free-least;
                   free-most = f .free-most;
                   stored = eqb-true _ _ (h .store);
                   valued = eqb-true _ _ (and-second (eqb (length (box .tables)) (tablesSize size)) _ fits);
+                  counted = permits-counted size (box .regs .semaphores) (tablesOf size (box .tables)) (box .values) (f .levels);
                 };
             mode = f .mode;
             number = f .number;

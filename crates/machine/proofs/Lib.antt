@@ -4,6 +4,7 @@ pub mod Plain
 pub mod Queues
 pub mod Moves
 pub mod Booked
+pub mod Permits
 pub mod Changes
 pub mod Steady
 pub mod Outcomes
@@ -24,4 +25,6 @@ pub mod NotEmpty
 pub mod Traces
 pub mod Cuts
 pub mod Order
+pub mod Permitted
+pub mod Semaphores
 pub mod Mistakes

@@ -85,6 +85,13 @@ pub keep-out : (f : ℕ → Bool) (x : ℕ) (xs : List ℕ) → f x ≡ false �
 unfolding keep
 keep-out f x xs e = rw e
 
+pub keep-short : (f : ℕ → Bool) (xs : List ℕ) → length (keep f xs) ≤ length xs
+keep-short f [] = rw (keep-nil f) (omega arith)
+keep-short f (x ∷ xs) =
+    cases (f x)
+    (λ e. rw (keep-in f x xs e) (omega (arith, keep-short f xs)))
+    (λ e. rw (keep-out f x xs e) (omega (arith, keep-short f xs)))
+
 pub keep-append : (f : ℕ → Bool) (xs ys : List ℕ) → keep f (xs ++ ys) ≡ keep f xs ++ keep f ys
 keep-append f [] ys = rw (keep-nil f)
 keep-append f (x ∷ xs) ys =

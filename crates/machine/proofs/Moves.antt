@@ -5,64 +5,80 @@ use mathlib.Core.List.{List}
 use mathlib.Core.Logic.{_⊎_, _≢_, inl, inr, ⊎-elim}
 use native.Mathlib.Omega.{arith}
 use lib.ListN.{length, getD}
-use Rattle.machine.specs.Plain.{Awaited, Placed, SavedFrame, Tidy}
-use Rattle.machine.specs.Size.{conditionLimit, mutexLimit}
-use Rattle.machine.specs.Tables.{Tables, active, atCondition, atEnd, atMutex, ended, owned, ownerOf, placeOf, ready, sent}
+use Rattle.machine.specs.Plain.{Awaited, Counts, Placed, SavedFrame, Tidy}
+use Rattle.machine.specs.Size.{conditionLimit, mutexLimit, semaphoreLimit}
+use Rattle.machine.specs.Tables.{Tables, active, atCondition, atEnd, atMutex, atSemaphore, ended, owned, ownerOf, placeOf, ready, sent}
 use Rattle.machine.proofs.Lists.{same-or-not}
 use Rattle.machine.proofs.Queues.{Sizes, owned-here, owned-line, owned-places, owned-saved, owned-sizes, owned-there, sent-count, sent-here, sent-owner, sent-saved, sent-sizes, sent-there}
 
 -- ---- what the places ask where a thread waits there
 
-module _ {size threads mutexes conditions : ℕ} {tables : Tables} where
+module _ {size threads mutexes conditions semaphores : ℕ} {tables : Tables} where
   -- at the places up to the ready queue's nobody waits for anything
-  pub awaited-low : (p : ℕ) → p ≤ ready → Awaited size threads mutexes conditions tables p
+  pub awaited-low : (p : ℕ) → p ≤ ready → Awaited size threads mutexes conditions semaphores tables p
   awaited-low p low =
       record {
         for-mutex = λ m h e. absurd (omega (arith, e));
         for-condition = λ c h e. absurd (omega (arith, e));
+        for-semaphore = λ k h e. absurd (omega (arith, e));
         for-end = λ u e. absurd (omega (arith, e));
       }
 
-  pub awaited-mutex : (m : ℕ) → m < mutexLimit size → m < mutexes → ownerOf tables m ≢ size → Awaited size threads mutexes conditions tables (atMutex m)
+  pub awaited-mutex : (m : ℕ) → m < mutexLimit size → m < mutexes → ownerOf tables m ≢ size → Awaited size threads mutexes conditions semaphores tables (atMutex m)
   awaited-mutex m limit made held =
       record {
         for-mutex = λ k h e. let same : m ≡ k = omega (arith, e) in (rw (← same) made, rw (← same) held);
         for-condition = λ c h e. absurd (omega (arith, e, limit));
+        for-semaphore = λ k h e. absurd (omega (arith, e, limit));
         for-end = λ u e. absurd (omega (arith, e, limit));
       }
 
-  pub awaited-condition : (c : ℕ) → c < conditionLimit size → c < conditions → Awaited size threads mutexes conditions tables (atCondition size c)
+  pub awaited-condition : (c : ℕ) → c < conditionLimit size → c < conditions → Awaited size threads mutexes conditions semaphores tables (atCondition size c)
   awaited-condition c limit made =
       record {
         for-mutex = λ m h e. absurd (omega (arith, e));
         for-condition = λ k h e. let same : c ≡ k = omega (arith, e) in rw (← same) made;
+        for-semaphore = λ k h e. absurd (omega (arith, e, limit));
         for-end = λ u e. absurd (omega (arith, e, limit));
       }
 
-  pub awaited-end : (t : ℕ) → t < threads → placeOf tables t ≢ ended → Awaited size threads mutexes conditions tables (atEnd size t)
+  pub awaited-semaphore : (k : ℕ) → k < semaphoreLimit size → k < semaphores → Awaited size threads mutexes conditions semaphores tables (atSemaphore size k)
+  awaited-semaphore k limit made =
+      record {
+        for-mutex = λ m h e. absurd (omega (arith, e));
+        for-condition = λ c h e. absurd (omega (arith, e));
+        for-semaphore = λ j h e. let same : k ≡ j = omega (arith, e) in rw (← same) made;
+        for-end = λ u e. absurd (omega (arith, e, limit));
+      }
+
+  pub awaited-end : (t : ℕ) → t < threads → placeOf tables t ≢ ended → Awaited size threads mutexes conditions semaphores tables (atEnd size t)
   awaited-end t made lives =
       record {
         for-mutex = λ m h e. absurd (omega (arith, e));
         for-condition = λ c h e. absurd (omega (arith, e));
+        for-semaphore = λ k h e. absurd (omega (arith, e));
         for-end = λ u e. let same : t ≡ u = omega (arith, e) in (rw (← same) made, rw (← same) lives);
       }
 
-  module _ {p : ℕ} (w : Awaited size threads mutexes conditions tables p) where
+  module _ {p : ℕ} (w : Awaited size threads mutexes conditions semaphores tables p) where
     -- more is made
-    pub awaited-more : (threads′ mutexes′ conditions′ : ℕ) → threads ≤ threads′ → mutexes ≤ mutexes′ → conditions ≤ conditions′ → Awaited size threads′ mutexes′ conditions′ tables p
-    awaited-more threads′ mutexes′ conditions′ more more-m more-c =
+    pub awaited-more : (threads′ mutexes′ conditions′ semaphores′ : ℕ) → threads ≤ threads′ → mutexes ≤ mutexes′ → conditions ≤ conditions′ → semaphores ≤ semaphores′ →
+        Awaited size threads′ mutexes′ conditions′ semaphores′ tables p
+    awaited-more threads′ mutexes′ conditions′ semaphores′ more more-m more-c more-s =
         record {
           for-mutex = λ m h e. let was = w .for-mutex m h e in (omega (arith, was .0), was .1);
           for-condition = λ c h e. omega (arith, w .for-condition c h e);
+          for-semaphore = λ k h e. omega (arith, w .for-semaphore k h e);
           for-end = λ u e. let was = w .for-end u e in (omega (arith, was .0), was .1);
         }
 
     -- a thread goes elsewhere, and doesn't end where its end is waited for
-    pub awaited-sent : (t q : ℕ) → t < length (tables .places) → (q ≡ ended → p ≢ atEnd size t) → Awaited size threads mutexes conditions (sent tables t q) p
+    pub awaited-sent : (t q : ℕ) → t < length (tables .places) → (q ≡ ended → p ≢ atEnd size t) → Awaited size threads mutexes conditions semaphores (sent tables t q) p
     awaited-sent t q below lives =
         record {
           for-mutex = λ m h e. rw (sent-owner tables t q m) (w .for-mutex m h e);
           for-condition = w .for-condition;
+          for-semaphore = w .for-semaphore;
           for-end =
               λ u e.
               let was = w .for-end u e in (
@@ -74,12 +90,12 @@ module _ {size threads mutexes conditions : ℕ} {tables : Tables} where
         }
 
     -- tables with the same places and owners
-    pub awaited-same : (next : Tables) → next .places ≡ tables .places → next .owners ≡ tables .owners → Awaited size threads mutexes conditions next p
+    pub awaited-same : (next : Tables) → next .places ≡ tables .places → next .owners ≡ tables .owners → Awaited size threads mutexes conditions semaphores next p
     awaited-same next places owners =
-        record { for-mutex = rw owners (w .for-mutex); for-condition = w .for-condition; for-end = rw places (w .for-end) }
+        record { for-mutex = rw owners (w .for-mutex); for-condition = w .for-condition; for-semaphore = w .for-semaphore; for-end = rw places (w .for-end) }
 
     -- a mutex gets another owner, or none where nobody waits for it
-    pub awaited-owned : (m o : ℕ) → m < length (tables .owners) → (o ≡ size → p ≢ atMutex m) → Awaited size threads mutexes conditions (owned tables m o) p
+    pub awaited-owned : (m o : ℕ) → m < length (tables .owners) → (o ≡ size → p ≢ atMutex m) → Awaited size threads mutexes conditions semaphores (owned tables m o) p
     awaited-owned m o below wanted =
         record {
           for-mutex =
@@ -91,6 +107,7 @@ module _ {size threads mutexes conditions : ℕ} {tables : Tables} where
                     (λ far. rw (owned-there tables m o j far) (was .1)),
               );
           for-condition = w .for-condition;
+          for-semaphore = w .for-semaphore;
           for-end = λ u e. rw (owned-places tables m o) (w .for-end u e);
         }
 
@@ -115,26 +132,26 @@ pub turn-kept : {size run t p : ℕ} → run ≢ t → p ≢ active → Turn siz
 turn-kept idle away = record { to-run = λ e. absurd (away e); others = λ s h far e. e; runner = λ h. inr (refl, idle) }
 
 -- thread t may go to place p
-pub record May (size threads mutexes conditions : ℕ) (tables : Tables) (t p : ℕ) : Type 0 where
+pub record May (size threads mutexes conditions semaphores : ℕ) (tables : Tables) (t p : ℕ) : Type 0 where
   pub somewhere : 0 < p
-  pub awaited : Awaited size threads mutexes conditions tables p
+  pub awaited : Awaited size threads mutexes conditions semaphores tables p
   -- it ends only where nobody waits for that and it owns nothing
   pub to-ended : p ≡ ended → ((s : ℕ) → s < size → placeOf tables s ≢ atEnd size t) × ((m : ℕ) → m < mutexLimit size → ownerOf tables m ≢ t)
   pub has-frame : ready ≤ p → SavedFrame tables t
 
-module _ {size threads mutexes conditions : ℕ} {tables : Tables} {t : ℕ} where
+module _ {size threads mutexes conditions semaphores : ℕ} {tables : Tables} {t : ℕ} where
   -- to the ready queue or another, its registers saved
-  pub may-wait : {p : ℕ} → ready ≤ p → Awaited size threads mutexes conditions tables p → SavedFrame tables t → May size threads mutexes conditions tables t p
+  pub may-wait : {p : ℕ} → ready ≤ p → Awaited size threads mutexes conditions semaphores tables p → SavedFrame tables t → May size threads mutexes conditions semaphores tables t p
   may-wait high w f = record { somewhere = omega arith; awaited = w; to-ended = λ e. absurd (omega (arith, e)); has-frame = λ h. f }
 
-  pub may-ready : SavedFrame tables t → May size threads mutexes conditions tables t ready
+  pub may-ready : SavedFrame tables t → May size threads mutexes conditions semaphores tables t ready
   may-ready f = may-wait (omega arith) (awaited-low ready (omega arith)) f
 
-  pub may-run : May size threads mutexes conditions tables t active
+  pub may-run : May size threads mutexes conditions semaphores tables t active
   may-run = record { somewhere = omega arith; awaited = awaited-low active (omega arith); to-ended = λ e. absurd (omega (arith, e)); has-frame = λ h. absurd (omega (arith, h)) }
 
   pub may-end : ((s : ℕ) → s < size → placeOf tables s ≢ atEnd size t) → ((m : ℕ) → m < mutexLimit size → ownerOf tables m ≢ t) →
-      May size threads mutexes conditions tables t ended
+      May size threads mutexes conditions semaphores tables t ended
   may-end unawaited free = record { somewhere = omega arith; awaited = awaited-low ended (omega arith); to-ended = λ e. (unawaited, free); has-frame = λ h. absurd (omega (arith, h)) }
 
 -- so many threads are made afterwards: t, and no other that wasn't
@@ -145,12 +162,12 @@ pub record Makes (size threads t threads′ : ℕ) : Type 0 where
   pub is-made : t < threads′
 
 -- tables of the box's sizes, and tidy
-pub record Kempt (size threads mutexes conditions run : ℕ) (tables : Tables) : Type 0 where
+pub record Kempt (size threads mutexes conditions semaphores run : ℕ) (tables : Tables) : Type 0 where
   pub sizes : Sizes size tables
-  pub tidy : Tidy size threads mutexes conditions run tables
+  pub tidy : Tidy size threads mutexes conditions semaphores run tables
 
-module _ {size threads mutexes conditions run : ℕ} {tables : Tables} (k : Kempt size threads mutexes conditions run tables) where
-  module _ (t p threads′ run′ : ℕ) (made : Makes size threads t threads′) (turn : Turn size run t p run′) (may : May size threads mutexes conditions tables t p) where
+module _ {size threads mutexes conditions semaphores run : ℕ} {tables : Tables} (k : Kempt size threads mutexes conditions semaphores run tables) where
+  module _ (t p threads′ run′ : ℕ) (made : Makes size threads t threads′) (turn : Turn size run t p run′) (may : May size threads mutexes conditions semaphores tables t p) where
     inside : t < length (tables .places)
     inside = rw (k .sizes .places) (omega (arith, made .is-made, made .most))
 
@@ -161,13 +178,13 @@ module _ {size threads mutexes conditions run : ℕ} {tables : Tables} (k : Kemp
     there = sent-there tables t p
 
     -- what is waited for at a place, and what is saved of a thread, is so afterwards
-    waits : {q : ℕ} → Awaited size threads mutexes conditions tables q → (p ≡ ended → q ≢ atEnd size t) → Awaited size threads′ mutexes conditions (sent tables t p) q
-    waits w lives = awaited-sent (awaited-more w threads′ mutexes conditions (made .more) (omega arith) (omega arith)) t p inside lives
+    waits : {q : ℕ} → Awaited size threads mutexes conditions semaphores tables q → (p ≡ ended → q ≢ atEnd size t) → Awaited size threads′ mutexes conditions semaphores (sent tables t p) q
+    waits w lives = awaited-sent (awaited-more w threads′ mutexes conditions semaphores (made .more) (omega arith) (omega arith) (omega arith)) t p inside lives
 
     frames : (s : ℕ) → SavedFrame tables s → SavedFrame (sent tables t p) s
     frames s f = let same = sent-saved tables t p in rw (same .0, same .1, same .2) f
 
-    itself : Placed size threads′ mutexes conditions run′ (sent tables t p) t
+    itself : Placed size threads′ mutexes conditions semaphores run′ (sent tables t p) t
     itself =
         record {
           not-made = λ h. absurd (omega (arith, made .is-made));
@@ -177,7 +194,7 @@ module _ {size threads mutexes conditions run : ℕ} {tables : Tables} (k : Kemp
           kept = λ h. frames t (may .has-frame (rw here at h));
         }
 
-    other : (s : ℕ) → s < size → s ≢ t → Placed size threads′ mutexes conditions run′ (sent tables t p) s
+    other : (s : ℕ) → s < size → s ≢ t → Placed size threads′ mutexes conditions semaphores run′ (sent tables t p) s
     other s below away =
         let old = k .tidy .placed s below in
         let stays = there s away in
@@ -189,7 +206,7 @@ module _ {size threads mutexes conditions run : ℕ} {tables : Tables} (k : Kemp
           kept = λ h. frames s (old .kept (rw stays at h));
         }
 
-    pub moved : Kempt size threads′ mutexes conditions run′ (sent tables t p)
+    pub moved : Kempt size threads′ mutexes conditions semaphores run′ (sent tables t p)
     moved =
         record {
           sizes = sent-sizes tables t p size (k .sizes);
@@ -201,13 +218,14 @@ module _ {size threads mutexes conditions run : ℕ} {tables : Tables} (k : Kemp
                       threads-fit = made .most;
                       mutexes-fit = k .tidy .counts .mutexes-fit;
                       conditions-fit = k .tidy .counts .conditions-fit;
+                      semaphores-fit = k .tidy .counts .semaphores-fit;
                     };
                 line =
                     record {
                       once = λ s h. sent-count tables t p s ∙ k .tidy .line .once s h;
                       no-other = λ s h. sent-count tables t p s ∙ k .tidy .line .no-other s h;
                     };
-                placed = λ s h. same-or-not s t (λ e. subst (Placed size threads′ mutexes conditions run′ (sent tables t p)) (sym e) itself) (other s h);
+                placed = λ s h. same-or-not s t (λ e. subst (Placed size threads′ mutexes conditions semaphores run′ (sent tables t p)) (sym e) itself) (other s h);
                 runner =
                     λ h.
                     ⊎-elim
@@ -231,14 +249,14 @@ module _ {size threads mutexes conditions run : ℕ} {tables : Tables} (k : Kemp
         }
 
   -- a thread that was made goes to a place
-  pub goes : (t p run′ : ℕ) → t < threads → Turn size run t p run′ → May size threads mutexes conditions tables t p → Kempt size threads mutexes conditions run′ (sent tables t p)
+  pub goes : (t p run′ : ℕ) → t < threads → Turn size run t p run′ → May size threads mutexes conditions semaphores tables t p → Kempt size threads mutexes conditions semaphores run′ (sent tables t p)
   goes t p run′ made = moved t p threads run′ (record { more = omega arith; most = k .tidy .counts .threads-fit; only-new = λ s h away. h; is-made = made })
 
 -- a mutex that was made gets a live thread as its owner; or none, where nobody waits for it
-pub owner-set : {size threads mutexes conditions run : ℕ} {tables : Tables} → Kempt size threads mutexes conditions run tables →
+pub owner-set : {size threads mutexes conditions semaphores run : ℕ} {tables : Tables} → Kempt size threads mutexes conditions semaphores run tables →
     (m o : ℕ) → m < mutexes → (o ≢ size → (o < threads) × (ended < placeOf tables o)) → (o ≡ size → (t : ℕ) → t < size → placeOf tables t ≢ atMutex m) →
-    Kempt size threads mutexes conditions run (owned tables m o)
-owner-set {size} {threads} {mutexes} {conditions} {run} {tables} k m o made real unwanted =
+    Kempt size threads mutexes conditions semaphores run (owned tables m o)
+owner-set {size} {threads} {mutexes} {conditions} {semaphores} {run} {tables} k m o made real unwanted =
     let y = k .tidy in
     let next : Tables = owned tables m o in
     let limit : m < mutexLimit size = omega (arith, y .counts .mutexes-fit) in
@@ -281,23 +299,17 @@ owner-set {size} {threads} {mutexes} {conditions} {run} {tables} k m o made real
           };
     }
 
--- more mutexes, or more conditions, were made
-pub counts-grow : {size threads mutexes conditions run : ℕ} {tables : Tables} → Kempt size threads mutexes conditions run tables →
-    (mutexes′ conditions′ : ℕ) → mutexes ≤ mutexes′ → mutexes′ ≤ mutexLimit size → conditions ≤ conditions′ → conditions′ ≤ conditionLimit size →
-    Kempt size threads mutexes′ conditions′ run tables
-counts-grow {threads = threads} k mutexes′ conditions′ more most more-c most-c =
+-- more mutexes, conditions or semaphores were made
+pub counts-grow : {size threads mutexes conditions semaphores run : ℕ} {tables : Tables} → Kempt size threads mutexes conditions semaphores run tables →
+    (mutexes′ conditions′ semaphores′ : ℕ) → mutexes ≤ mutexes′ → conditions ≤ conditions′ → semaphores ≤ semaphores′ →
+    Counts size threads mutexes′ conditions′ semaphores′ → Kempt size threads mutexes′ conditions′ semaphores′ run tables
+counts-grow {threads = threads} k mutexes′ conditions′ semaphores′ more more-c more-s counts =
     let y = k .tidy in
     record {
       sizes = k .sizes;
       tidy =
           record {
-            counts =
-                record {
-                  some-thread = y .counts .some-thread;
-                  threads-fit = y .counts .threads-fit;
-                  mutexes-fit = most;
-                  conditions-fit = most-c;
-                };
+            counts = counts;
             line = y .line;
             placed =
                 λ t h.
@@ -306,7 +318,7 @@ counts-grow {threads = threads} k mutexes′ conditions′ more most more-c most
                   not-made = old .not-made;
                   is-made = old .is-made;
                   only-run = old .only-run;
-                  awaited = awaited-more (old .awaited) threads mutexes′ conditions′ (omega arith) more more-c;
+                  awaited = awaited-more (old .awaited) threads mutexes′ conditions′ semaphores′ (omega arith) more more-c more-s;
                   kept = old .kept;
                 };
             runner = y .runner;

@@ -1,4 +1,5 @@
--- None of the laws is empty: an accepted card, and a list of calls after which a mutex has an owner and a waiter. Computed. Assumes nothing.
+-- None of the laws is empty: an accepted card, and lists of calls after which a mutex has an owner and a waiter, and two wait for a semaphore.
+-- Computed. Assumes nothing.
 use mathlib.Core.Path.{refl}
 use Rattle.card.specs.Code.{firstBad, wordsOf}
 use Rattle.card.specs.Image.{codeOf, readCode, readOf}
@@ -6,7 +7,7 @@ use Rattle.writer.specs.Writing.{wordsBytes}
 use Rattle.machine.specs.Book.{eventOf}
 use Rattle.machine.specs.Calls.{runCall, setUp}
 use Rattle.machine.specs.Demand.{played}
-use Rattle.machine.specs.Execution.{exec, fits, frame, needs, owns, rooms, within}
+use Rattle.machine.specs.Execution.{exec, fits, frame, needs, opening, owns, rooms, within}
 use Rattle.machine.specs.Instructions.{instructionOf}
 use Rattle.machine.specs.Laws.{NotEmpty}
 use Rattle.machine.specs.Lists.{count, every, keep, some, toEnd, upTo}
@@ -17,6 +18,6 @@ use Rattle.machine.specs.WellFormed.{allBelow, formed, wellFormed}
 
 pub not-empty : NotEmpty
 unfolding
-    played setUp runCall run carried exec needs rooms within fits frame owns eventOf instructionOf start next left finished tablesOf sliceOf queue anyLive
+    played setUp runCall run carried exec needs rooms within fits frame opening owns eventOf instructionOf start next left finished tablesOf sliceOf queue anyLive
     first sent owned ownsAny saved allReady keep count toEnd upTo every some allBelow formed wellFormed readOf readCode codeOf firstBad wordsOf wordsBytes
-not-empty = record { accepted = refl; owner = refl; waiters = refl }
+not-empty = record { accepted = refl; owner = refl; waiters = refl; semaphore = refl; count = refl; in-line = refl }

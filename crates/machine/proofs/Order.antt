@@ -51,7 +51,7 @@ module _ (size : ℕ) (box : Box) (book : Book) (fair : Fair size (stateOf size 
   owners = record { first-owns = first-owns; owner-first = owner-first }
 
 -- a law of every point of a trace that holds up to its end
-to-the-end : (trace : List Entry) (P : Book → Type 0) → ((j : ℕ) → j ≤ length trace → P (bookAt trace j)) → (j : ℕ) → P (bookAt trace j)
+pub to-the-end : (trace : List Entry) (P : Book → Type 0) → ((j : ℕ) → j ≤ length trace → P (bookAt trace j)) → (j : ℕ) → P (bookAt trace j)
 to-the-end trace P h j =
     less-or-not j (length trace)
     (λ k. h j (omega arith))

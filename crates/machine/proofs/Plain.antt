@@ -6,13 +6,14 @@ use mathlib.Core.List.{List}
 use mathlib.Core.Logic.{_≢_}
 use native.Mathlib.Omega.{arith}
 use lib.Dec.{eqb, leb, ltb}
+use lib.IntN.{ℤ}
 use borrow.Author.Tests.{eq-eqb, ne-eqb, eqb-true, eqb-false, ltb-true, ltb-false, leb-true, leb-false, lt-ltb, le-ltb, le-leb, lt-leb, not-true}
 use Rattle.machine.specs.Lists.{count, every}
 use Rattle.machine.specs.Plain.{Counts, Fault, Formed, Frame, Line, Mode, Placed, Tidy}
 use Rattle.machine.specs.Registers.{faulted, halted, running, stuck}
 use Rattle.machine.specs.Size.{mutexLimit, shared}
 use Rattle.machine.specs.Tables.{Tables, active, anyLive, ended, isAt, lives, ownerOf, placeOf, ready, unmade}
-use Rattle.machine.specs.WellFormed.{allBelow, anyReady, countsFit, faultFits, formed, frameFits, inRange, lineFits, ownerFits, registersFit, savedFits, stateFits, threadFits, waitFits}
+use Rattle.machine.specs.WellFormed.{allBelow, anyReady, countsFit, faultFits, formed, frameFits, inRange, levelFits, lineFits, ownerFits, registersFit, savedFits, stateFits, threadFits, waitFits}
 use Rattle.machine.specs.declared.registers.Registers.{Registers}
 use Rattle.machine.proofs.Every.{and-first, and-second, and-true, below-none, every-true, false-some, never, none-below, or-true, some-false, some-true, tests, true-and, true-cond, true-every, true-not, true-or, true-some}
 use Rattle.machine.proofs.Lists.{cases}
@@ -73,7 +74,7 @@ module _ (size : ℕ) (r : Registers) (tables : Tables) (t : ℕ) where
       waits made (cases (isAt tables ready t) (λ d. omega tests) (λ d. omega (tests, and-first (leb 4 place) _ (or-true (isAt tables ready t) _ (and-second (savedFits tables t) _ q) d)))) q)))
 
   -- a thread that passes has its place as read plainly
-  plain-place : threadFits size r tables t ≡ true → Placed size (r .threads) (r .mutexes) (r .conditions) (r .thread) tables t
+  plain-place : threadFits size r tables t ≡ true → Placed size (r .threads) (r .mutexes) (r .conditions) (r .semaphores) (r .thread) tables t
   plain-place e =
       record {
         not-made = λ h. standing e (λ a b. b) (λ a b c. omega arith) (λ a b. omega arith) (λ a b c. omega arith);
@@ -88,9 +89,12 @@ module _ (size : ℕ) (r : Registers) (tables : Tables) (t : ℕ) where
               for-condition = λ c h q.
                   let k : place - (4 + 2 * size) ≡ c = omega arith in
                   ltb-true c (r .conditions) (rw (le-ltb place (4 + 2 * size) (omega arith), lt-ltb place (4 + 4 * size) (omega arith), k) at (waiting (omega arith)));
+              for-semaphore = λ j h q.
+                  let k : place - (4 + 4 * size) ≡ j = omega arith in
+                  ltb-true j (r .semaphores) (rw (le-ltb place (4 + 2 * size) (omega arith), le-ltb place (4 + 4 * size) (omega arith), lt-ltb place (4 + 5 * size) (omega arith), k) at (waiting (omega arith)));
               for-end = λ u q.
-                  let k : place - (4 + 4 * size) ≡ u = omega arith in
-                  let w = and-true (ltb u (r .threads)) _ (rw (le-ltb place (4 + 2 * size) (omega arith), le-ltb place (4 + 4 * size) (omega arith), k) at (waiting (omega arith))) in
+                  let k : place - (4 + 5 * size) ≡ u = omega arith in
+                  let w = and-true (ltb u (r .threads)) _ (rw (le-ltb place (4 + 2 * size) (omega arith), le-ltb place (4 + 4 * size) (omega arith), le-ltb place (4 + 5 * size) (omega arith), k) at (waiting (omega arith))) in
                   (ltb-true _ _ (w .0), eqb-false _ _ (not-true _ (w .1)));
             };
         kept = λ h. plain-frame _ _ _ (and-first (savedFits tables t) _ (queues h));
@@ -103,18 +107,20 @@ module _ (size : ℕ) (r : Registers) (tables : Tables) (t : ℕ) where
       waiting h = and-second (leb 4 place) _ (or-true (isAt tables ready t) _ (and-second (savedFits tables t) _ (queues (omega arith))) (ne-eqb place 3 (omega arith)))
 
   -- what a thread waits for is made
-  test-wait : Placed size (r .threads) (r .mutexes) (r .conditions) (r .thread) tables t → 4 ≤ place → waitFits size r tables place ≡ true
+  test-wait : Placed size (r .threads) (r .mutexes) (r .conditions) (r .semaphores) (r .thread) tables t → 4 ≤ place → waitFits size r tables place ≡ true
   test-wait p h =
       true-cond (ltb place (4 + 2 * size)) _ _
       (λ a. let w = p .awaited .for-mutex (place - 4) (omega tests) (omega arith) in
       true-and _ _ (lt-ltb _ _ (w .0)) (true-not _ (ne-eqb _ _ (w .1))))
       (λ a. true-cond (ltb place (4 + 4 * size)) _ _
       (λ b. lt-ltb _ _ (p .awaited .for-condition (place - (4 + 2 * size)) (omega tests) (omega tests)))
-      (λ b. let w = p .awaited .for-end (place - (4 + 4 * size)) (omega tests) in
-      true-and _ _ (lt-ltb _ _ (w .0)) (true-not _ (ne-eqb _ _ (w .1)))))
+      (λ b. true-cond (ltb place (4 + 5 * size)) _ _
+      (λ c. lt-ltb _ _ (p .awaited .for-semaphore (place - (4 + 4 * size)) (omega tests) (omega tests)))
+      (λ c. let w = p .awaited .for-end (place - (4 + 5 * size)) (omega tests) in
+      true-and _ _ (lt-ltb _ _ (w .0)) (true-not _ (ne-eqb _ _ (w .1))))))
 
   -- and a thread whose place reads plainly passes the test
-  test-place : Tidy size (r .threads) (r .mutexes) (r .conditions) (r .thread) tables → t < size → threadFits size r tables t ≡ true
+  test-place : Tidy size (r .threads) (r .mutexes) (r .conditions) (r .semaphores) (r .thread) tables → t < size → threadFits size r tables t ≡ true
   test-place y h =
       let p = y .placed t h in
       true-cond (leb (r .threads) t) _ _
@@ -176,11 +182,11 @@ module _ (size : ℕ) (r : Registers) (tables : Tables) where
       (λ c. eq-eqb (r .state) 0 (omega (arith, m .known, eqb-false (r .state) 1 b, eqb-false (r .state) 3 c)))))
 
   -- the registers, with a running thread that was made or nobody
-  test-registers : Formed size r tables → registersFit size r ≡ true
-  test-registers f =
+  test-registers : (values : List ℤ) → Formed size r tables values → registersFit size r ≡ true
+  test-registers values f =
       let one : (ltb (r .thread) (r .threads) || eqb (r .thread) size) ≡ true =
       true-or (ltb (r .thread) (r .threads)) _ (λ a. cases (eqb (r .thread) size) (λ b. b) (λ b. absurd (omega (tests, f .tidy .runner (eqb-false _ _ b) .0)))) in
-      search (true-and, le-leb) depth 7
+      search (true-and, le-leb) depth 8
 
   -- the owners
   plain-owner : (m : ℕ) → ownerFits size r tables m ≡ true → ownerOf tables m ≢ size → (m < r .mutexes) × (ownerOf tables m < r .threads) × (ended < placeOf tables (ownerOf tables m))
@@ -189,7 +195,7 @@ module _ (size : ℕ) (r : Registers) (tables : Tables) where
       let w = and-true (ltb (ownerOf tables m) (r .threads)) _ (v .1) in
       (ltb-true _ _ (v .0), ltb-true _ _ (w .0), ltb-true _ _ (w .1))
 
-  test-owner : Tidy size (r .threads) (r .mutexes) (r .conditions) (r .thread) tables → (m : ℕ) → m < mutexLimit size → ownerFits size r tables m ≡ true
+  test-owner : Tidy size (r .threads) (r .mutexes) (r .conditions) (r .semaphores) (r .thread) tables → (m : ℕ) → m < mutexLimit size → ownerFits size r tables m ≡ true
   test-owner y m h =
       true-or (eqb (ownerOf tables m) size) _
       (λ a. let held = eqb-false _ _ a in
@@ -197,18 +203,19 @@ module _ (size : ℕ) (r : Registers) (tables : Tables) where
       true-and _ _ (lt-ltb _ _ (w .0)) (true-and _ _ (lt-ltb _ _ (w .1)) (lt-ltb ended _ (y .owners-live m h held))))
 
 -- the test of a well-formed state gives the plain reading
-pub plain : (size : ℕ) (r : Registers) (tables : Tables) → formed size r tables ≡ true → Formed size r tables
+pub plain : (size : ℕ) (r : Registers) (tables : Tables) (values : List ℤ) → formed size r tables values ≡ true → Formed size r tables values
 unfolding formed
-plain size r tables e =
+plain size r tables values e =
     let a = and-true (registersFit size r) _ e in
     let b = and-true (lineFits size (tables .line)) _ (a .1) in
     let c = and-true (every size (threadFits size r tables)) _ (b .1) in
     let d = and-true (every (mutexLimit size) (ownerFits size r tables)) _ (c .1) in
-    let g = and-true (faultFits r) _ (d .1) in
+    let v = and-true (every (r .semaphores) (levelFits size tables values)) _ (d .1) in
+    let g = and-true (faultFits r) _ (v .1) in
     let h = and-true (countsFit size r) _ (a .0) in
     let k = and-true (frameFits (r .pc) (r .cells) (r .fp)) _ (h .1) in
     let l = and-true (inRange 1 (shared size) (r .free)) _ (k .1) in
-    let counts : Counts size (r .threads) (r .mutexes) (r .conditions) = search (and-first, and-second, leb-true) in
+    let counts : Counts size (r .threads) (r .mutexes) (r .conditions) (r .semaphores) = search (and-first, and-second, leb-true) in
     record {
       tidy =
           record {
@@ -225,16 +232,18 @@ plain size r tables e =
       frame = plain-frame _ _ _ (k .0);
       free-least = leb-true _ _ (and-first _ _ (l .0));
       free-most = leb-true _ _ (and-second (leb 1 (r .free)) _ (l .0));
+      levels = λ j i. eqb-true _ _ (every-true (r .semaphores) _ (v .0) j i);
       mode = plain-mode size r tables (g .1);
       number = plain-fault r (g .0);
     }
 
 -- and the plain reading gives the test
-pub tested : (size : ℕ) (r : Registers) (tables : Tables) → Formed size r tables → formed size r tables ≡ true
+pub tested : (size : ℕ) (r : Registers) (tables : Tables) (values : List ℤ) → Formed size r tables values → formed size r tables values ≡ true
 unfolding formed
-tested size r tables f =
-    true-and (registersFit size r) _ (test-registers size r tables f)
+tested size r tables values f =
+    true-and (registersFit size r) _ (test-registers size r tables values f)
     (true-and (lineFits size (tables .line)) _ (test-line _ _ (f .tidy .line))
     (true-and (every size (threadFits size r tables)) _ (true-every size _ (λ t h. test-place size r tables t (f .tidy) h))
     (true-and (every (mutexLimit size) (ownerFits size r tables)) _ (true-every (mutexLimit size) _ (test-owner size r tables (f .tidy)))
-    (true-and (faultFits r) _ (test-fault r (f .number)) (test-mode size r tables (f .mode))))))
+    (true-and (every (r .semaphores) (levelFits size tables values)) _ (true-every (r .semaphores) _ (λ j h. eq-eqb _ _ (f .levels j h)))
+    (true-and (faultFits r) _ (test-fault r (f .number)) (test-mode size r tables (f .mode)))))))

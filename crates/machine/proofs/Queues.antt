@@ -1,6 +1,6 @@
 -- Laws of the tables: places, owners and queues after a move, an owner, or a save. Only this file opens the moves' definitions.
 -- Assumes nothing.
-use Prim.Native.Nat.{ℕ, _+_, _*_, _<_}
+use Prim.Native.Nat.{ℕ, _+_, _*_, _<_, _≤_}
 use mathlib.Core.Path.{_≡_, refl, sym, ap, _∙_}
 use mathlib.Core.Bool.{false}
 use mathlib.Core.List.{List, [], _∷_, _++_}
@@ -12,7 +12,7 @@ use borrow.Author.Tests.{eq-eqb, ne-eqb, eqb-true, eqb-false}
 use Rattle.machine.specs.Lists.{count}
 use Rattle.machine.specs.Tables.{Tables, allReady, first, firstOf, isAt, owned, ownerOf, placeOf, queue, ready, saved, sent}
 use Rattle.machine.specs.declared.numbers.First.the-variants.{Waiter, Nobody}
-use Rattle.machine.proofs.Lists.{arrives, count-keep, count-to-end, departs, first-occurs, first-passes, keep-none, keep-same, keep-to-end, length-to-end, none-passes, same-or-not}
+use Rattle.machine.proofs.Lists.{arrives, count-keep, count-to-end, departs, first-occurs, first-passes, keep-none, keep-same, keep-short, keep-to-end, length-to-end, none-passes, same-or-not}
 
 -- the tables' lists have the box's sizes
 pub record Sizes (size : ℕ) (tables : Tables) : Type 0 where
@@ -218,3 +218,8 @@ pub woken-owner : (l : List ℕ) (tables : Tables) (m : ℕ) → ownerOf (allRea
 unfolding allReady
 woken-owner [] tables m = refl
 woken-owner (t ∷ rest) tables m = woken-owner rest (sent tables t ready) m ∙ sent-owner tables t ready m
+
+-- a queue is no longer than the line
+pub queue-short : (tables : Tables) (q : ℕ) → length (queue tables q) ≤ length (tables .line)
+unfolding queue
+queue-short tables q = keep-short (isAt tables q) (tables .line)

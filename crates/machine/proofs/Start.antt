@@ -6,11 +6,11 @@ use native.Mathlib.Omega.{arith}
 use lib.Dec.{lit≤}
 use lib.IntN.{pos}
 use lib.ListN.{getD, replicate, getD-replicate, length-replicate, length-set}
-use borrow.Author.Tests.{eq-eqb, ne-eqb}
+use borrow.Author.Tests.{eq-eqb, le-ltb, ne-eqb}
 use Rattle.machine.specs.Book.{blank}
 use Rattle.machine.specs.Size.{mutexLimit, shared}
 use Rattle.machine.specs.State.{start, startTables}
-use Rattle.machine.specs.Tables.{active, atMutex, ownerOf, placeOf, unmade}
+use Rattle.machine.specs.Tables.{active, atMutex, atSemaphore, ownerOf, placeOf, unmade}
 use Rattle.machine.proofs.Booked.{Booked}
 use Rattle.machine.proofs.Lists.{count-past, count-up-to, length-up-to, less-or-not, same-or-not}
 use Rattle.machine.proofs.Moves.{Kempt, awaited-low}
@@ -37,7 +37,7 @@ module _ (size : ℕ) (some : 1 ≤ size) where
   unowned : (m : ℕ) → m < mutexLimit size → ownerOf (startTables size) m ≡ size
   unowned m h = getD-replicate (2 * size) m size 0 h
 
-  start-kempt : Kempt size 1 0 0 0 (startTables size)
+  start-kempt : Kempt size 1 0 0 0 0 (startTables size)
   start-kempt =
       record {
         sizes =
@@ -51,7 +51,7 @@ module _ (size : ℕ) (some : 1 ≤ size) where
             };
         tidy =
             record {
-              counts = record { some-thread = lit≤ tt; threads-fit = some; mutexes-fit = omega arith; conditions-fit = omega arith };
+              counts = record { some-thread = lit≤ tt; threads-fit = some; mutexes-fit = omega arith; conditions-fit = omega arith; semaphores-fit = omega arith };
               line = record { once = count-up-to size; no-other = count-past size };
               placed =
                   λ t h.
@@ -81,12 +81,25 @@ module _ (size : ℕ) (some : 1 ≤ size) where
   start-right cells least most =
       active-right size _ blank
       (record {
-        both = record { kempt = start-kempt; booked = start-booked };
+        both =
+            record {
+              kempt = start-kempt;
+              booked = start-booked;
+              passing = record { left = λ k h. no-queue (startTables size) (atSemaphore size k) (λ t i. low t _ (omega arith)) };
+            };
         frame = record { pc-fits = omega arith; cells-fit = lit≤ tt; fp-least = lit≤ tt; fp-most = lit≤ tt };
         free-least = least;
         free-most = most;
         stored = simp (length-set, length-replicate);
-        valued = length-replicate size (pos 0);
+        valued = length-replicate (2 * size) (pos 0);
+        counted =
+            record {
+              made-once = λ k. rw (le-ltb k 0 (omega arith));
+              count = λ k h. absurd (omega arith);
+              unstarted = λ k h. refl;
+              not-upped = λ k h. refl;
+              unused = λ k h. refl;
+            };
       })
       (record { runs = refl; sound = refl })
       (λ e. omega arith)

@@ -1,34 +1,36 @@
 -- What holds of a machine between instructions, beside its book; and that Next, blocking and ending keep it. Assumes nothing.
-use Prim.Native.Nat.{ℕ, _-_, _<_, _≤_}
+use Prim.Native.Nat.{ℕ, _+_, _-_, _<_, _≤_}
 use mathlib.Core.Path.{_≡_, refl, subst, _∙_}
 use mathlib.Core.Bool.{Bool, true, false, cond}
 use mathlib.Core.List.{List, [], _∷_}
 use mathlib.Core.Logic.{_≢_}
 use native.Mathlib.Omega.{arith}
-use lib.IntN.{ℤ}
-use lib.ListN.{length, length-set}
+use lib.IntN.{ℤ, pos, _-ℤ_}
+use lib.ListN.{length, set, length-set}
 use borrow.Author.Tests.{eqb-false, ltb-true, ltb-false}
-use Rattle.machine.specs.Book.{Book, fed}
+use Rattle.machine.specs.Book.{Book, fed, permitted}
 use Rattle.machine.specs.Book as event
 use Rattle.machine.specs.Plain.{Awaited, Fault, Frame, Mode, SavedFrame}
 use Rattle.machine.specs.Registers.{halted, nobody, running, stuck, withState}
-use Rattle.machine.specs.Size.{conditionLimit, mutexLimit, shared, storeSize, valuesSize}
-use Rattle.machine.specs.State.{State, blocked, ends, finished, left, next, nextOf, withRegs, withTables}
-use Rattle.machine.specs.Tables.{Tables, anyLive, atCondition, atEnd, atMutex, first, lives, ownerOf, ownsAny, placeOf, queue, ready, saved, sent, unlocked}
+use Rattle.machine.specs.Size.{conditionLimit, mutexLimit, semaphoreLimit, shared, storeSize, valuesSize}
+use Rattle.machine.specs.State.{State, blocked, ends, finished, left, next, nextOf, semaphoreCount, withCount, withRegs, withTables}
+use Rattle.machine.specs.Tables.{Tables, anyLive, atCondition, atEnd, atMutex, atSemaphore, first, lives, ownerOf, ownsAny, placeOf, queue, ready, saved, sent, unlocked}
 use Rattle.machine.proofs.Booked.{entry}
-use Rattle.machine.proofs.Changes.{Both, gives, head-below, leaves, nobody-at, saves, starts, stops, waits, wakes-all}
+use Rattle.machine.proofs.Changes.{Aside, Both, aside-condition, aside-end, gives, head-below, leaves, lowers-waits, nobody-at, saves, starts, stops, waits, wakes-all}
 use Rattle.machine.proofs.Every.{some-false, some-true}
 use Rattle.machine.proofs.Moves.{awaited-condition, awaited-same}
+use Rattle.machine.proofs.Permits.{Counted, counted-downed, counted-result, fed-downs, fed-ends, fed-locks, fed-unlocks}
 use Rattle.machine.proofs.Queues.{first-at, first-nobody, first-waiter, saved-depth, saved-frame, saved-owners, saved-pc, saved-places, sent-owner, woken-owner}
 
 -- the tables and the book, the registers' ranges, and the sizes of what is lent
 pub record Steady (size : ℕ) (s : State) (book : Book) : Type 0 where
-  pub both : Both size (s .regs .threads) (s .regs .mutexes) (s .regs .conditions) (s .regs .thread) (s .tables) book
+  pub both : Both size (s .regs .threads) (s .regs .mutexes) (s .regs .conditions) (s .regs .semaphores) (s .regs .thread) (s .tables) book
   pub frame : Frame (s .regs .pc) (s .regs .cells) (s .regs .fp)
   pub free-least : 1 ≤ s .regs .free
   pub free-most : s .regs .free ≤ shared size
   pub stored : length (s .store) ≡ storeSize size
   pub valued : length (s .values) ≡ valuesSize size
+  pub counted : Counted size (s .values) (s .regs .semaphores) (book .permits)
 
 -- and the machine's state
 pub record Right (size : ℕ) (s : State) (book : Book) : Type 0 where
@@ -82,12 +84,13 @@ next-right size s book y m none = by-queue (queue (s .tables) ready) refl
     still-steady : (b : Bool) → Steady size (after b) book
     still-steady b =
         record {
-          both = subst (λ (r : ℕ). Both size (s .regs .threads) (s .regs .mutexes) (s .regs .conditions) r (s .tables) book) none (y .both);
+          both = subst (λ (r : ℕ). Both size (s .regs .threads) (s .regs .mutexes) (s .regs .conditions) (s .regs .semaphores) r (s .tables) book) none (y .both);
           frame = y .frame;
           free-least = y .free-least;
           free-most = y .free-most;
           stored = y .stored;
           valued = y .valued;
+          counted = y .counted;
         }
 
     by-life : queue (s .tables) ready ≡ [] → (b : Bool) → anyLive size (s .tables) ≡ b → Landed size (after b) book
@@ -144,6 +147,7 @@ next-right size s book y m none = by-queue (queue (s .tables) ready) refl
           free-most = y .free-most;
           stored = y .stored;
           valued = y .valued;
+          counted = y .counted;
         })
         (record { runs = m .runs; sound = m .sound })
         (λ k. omega arith))
@@ -162,7 +166,7 @@ module _ (size : ℕ) (s : State) (book : Book) (y : Runs size s book) where
   below = let t = y .steady .both .kempt .tidy in omega (arith, t .runner (y .some) .0, t .counts .threads-fit)
 
   -- its registers are saved
-  saved-both : Both size (s .regs .threads) (s .regs .mutexes) (s .regs .conditions) (s .regs .thread) kept book
+  saved-both : Both size (s .regs .threads) (s .regs .mutexes) (s .regs .conditions) (s .regs .semaphores) (s .regs .thread) kept book
   unfolding kept
   saved-both = saves (y .steady .both) (s .regs .thread) (s .regs .pc) (s .regs .cells) (s .regs .fp) below (y .steady .frame)
 
@@ -185,26 +189,29 @@ module _ (size : ℕ) (s : State) (book : Book) (y : Runs size s book) where
   unfolding kept
   same-owners = saved-owners (s .tables) (s .regs .thread) (s .regs .pc) (s .regs .cells) (s .regs .fp)
 
-  -- what stays of the machine when its thread has left
-  gone-on : (p : ℕ) (book′ : Book) → Both size (s .regs .threads) (s .regs .mutexes) (s .regs .conditions) size (sent kept (s .regs .thread) p) book′ → Steady size (left size s p) book′
+  -- what stays of the machine when its thread has left, with the values that it leaves
+  gone-on : (p : ℕ) (values : List ℤ) (book′ : Book) → length values ≡ valuesSize size → Counted size values (s .regs .semaphores) (book′ .permits) →
+      Both size (s .regs .threads) (s .regs .mutexes) (s .regs .conditions) (s .regs .semaphores) size (sent kept (s .regs .thread) p) book′ →
+      Steady size (left size (record { store = s .store; tables = s .tables; values = values; regs = s .regs }) p) book′
   unfolding left kept
-  gone-on p book′ b =
+  gone-on p values book′ valued counted b =
       record {
         both = b;
         frame = y .steady .frame;
         free-least = y .steady .free-least;
         free-most = y .steady .free-most;
         stored = y .steady .stored;
-        valued = y .steady .valued;
+        valued = valued;
+        counted = counted;
       }
 
   -- what a place asks where a thread waits there
   abbrev pub Waits : ℕ → Type 0
-  Waits p = Awaited size (s .regs .threads) (s .regs .mutexes) (s .regs .conditions) (s .tables) p
+  Waits p = Awaited size (s .regs .threads) (s .regs .mutexes) (s .regs .conditions) (s .regs .semaphores) (s .tables) p
 
-  -- the thread leaves for a place that is no mutex's
-  pub left-steady : (p : ℕ) → ready ≤ p → ((m : ℕ) → m < mutexLimit size → p ≢ atMutex m) → Waits p → Steady size (left size s p) book
-  left-steady p high no-mutex w = gone-on p book (leaves saved-both p (y .some) high no-mutex (awaited-same w kept same-places same-owners) saved-here)
+  -- the thread leaves for a place that is no mutex's and no semaphore's
+  pub left-steady : (p : ℕ) → ready ≤ p → Aside size p → Waits p → Steady size (left size s p) book
+  left-steady p high aside w = gone-on p (s .values) book (y .steady .valued) (y .steady .counted) (leaves saved-both p (y .some) high aside (awaited-same w kept same-places same-owners) saved-here)
 
   pub left-marked : (p : ℕ) → Marked (left size s p)
   unfolding left
@@ -215,24 +222,40 @@ module _ (size : ℕ) (s : State) (book : Book) (y : Runs size s book) where
   left-none p = refl
 
   -- "wait in its queue, then Next", for ready, a condition or a thread's end
-  pub blocked-right : (p : ℕ) → ready ≤ p → ((m : ℕ) → m < mutexLimit size → p ≢ atMutex m) → Waits p → Landed size (blocked size s p) book
-  blocked-right p high no-mutex w = next-right size (left size s p) book (left-steady p high no-mutex w) (left-marked p) (left-none p)
+  pub blocked-right : (p : ℕ) → ready ≤ p → Aside size p → Waits p → Landed size (blocked size s p) book
+  blocked-right p high aside w = next-right size (left size s p) book (left-steady p high aside w) (left-marked p) (left-none p)
 
   -- for a mutex, which feeds the book
   pub lock-blocked : (m : ℕ) → m < s .regs .mutexes → ownerOf (s .tables) m ≢ size →
       Landed size (blocked size s (atMutex m)) (fed book (entry (s .regs .thread) (event.locks m)))
   lock-blocked m made held =
       next-right size (left size s (atMutex m)) (fed book (entry (s .regs .thread) (event.locks m)))
-      (gone-on (atMutex m) (fed book (entry (s .regs .thread) (event.locks m))) (waits saved-both m (y .some) made (rw same-owners held) saved-here))
+      (gone-on (atMutex m) (s .values) (fed book (entry (s .regs .thread) (event.locks m))) (y .steady .valued) (rw (fed-locks book (s .regs .thread) m) (y .steady .counted))
+      (waits saved-both m (y .some) made (rw same-owners held) saved-here))
       (left-marked (atMutex m))
       (left-none (atMutex m))
+
+  -- for a semaphore, whose count is lowered, which feeds the book
+  pub down-blocked : (k : ℕ) → k < s .regs .semaphores → permitted book k ≤ length (book .permits .downs k) →
+      let after = withCount size s k (semaphoreCount size (s .values) k -ℤ pos 1) in
+      Landed size (blocked size after (atSemaphore size k)) (fed book (entry (s .regs .thread) (event.downs k)))
+  down-blocked k made full =
+      let limit : k < semaphoreLimit size = omega (arith, y .steady .both .kempt .tidy .counts .semaphores-fit) in
+      let count : ℤ = semaphoreCount size (s .values) k -ℤ pos 1 in
+      next-right size (left size (withCount size s k count) (atSemaphore size k)) (fed book (entry (s .regs .thread) (event.downs k)))
+      (gone-on (atSemaphore size k) (set (s .values) (size + k) count) (fed book (entry (s .regs .thread) (event.downs k)))
+      (length-set (s .values) (size + k) count ∙ y .steady .valued)
+      (rw (fed-downs book (s .regs .thread) k) (counted-downed (y .steady .counted) k (s .regs .thread) made limit (y .steady .valued)))
+      (lowers-waits saved-both k made (y .some) full saved-here))
+      (unfold left in record { runs = y .marked .runs; sound = y .marked .sound })
+      (unfold left in refl)
 
   -- the thread ends, where it owns no mutex
   pub ends-right : ownsAny size (s .tables) (s .regs .thread) ≡ false → (v : ℤ) → Landed size (ends size s v) (fed book (entry (s .regs .thread) event.ends))
   unfolding finished ownsAny
   ends-right free v =
       let b = y .steady .both in
-      let woken = wakes-all b (atEnd size (s .regs .thread)) (omega arith) (λ m h e. omega (arith, e)) in
+      let woken = wakes-all b (atEnd size (s .regs .thread)) (omega arith) (aside-end (s .regs .thread)) in
       next-right size (finished size s v) (fed book (entry (s .regs .thread) event.ends))
       (record {
         both =
@@ -243,6 +266,7 @@ module _ (size : ℕ) (s : State) (book : Book) (y : Runs size s book) where
         free-most = y .steady .free-most;
         stored = y .steady .stored;
         valued = length-set (s .values) (s .regs .thread) v ∙ y .steady .valued;
+        counted = rw (fed-ends book (s .regs .thread)) (counted-result (y .steady .counted) (s .regs .thread) v below);
       })
       (record { runs = y .marked .runs; sound = y .marked .sound })
       refl
@@ -254,7 +278,7 @@ module _ (size : ℕ) (s : State) (book : Book) (y : Runs size s book) where
   unfolding left kept
   wait-right c m made-c made-m held =
       let limit : c < conditionLimit size = omega (arith, y .steady .both .kempt .tidy .counts .conditions-fit) in
-      let u = left-steady (atCondition size c) (omega arith) (λ k h e. omega (arith, e)) (awaited-condition c limit made-c) in
+      let u = left-steady (atCondition size c) (omega arith) (aside-condition c limit) (awaited-condition c limit made-c) in
       let owner = sent-owner kept (s .regs .thread) (atCondition size c) m in
       let still-held : ownerOf (sent kept (s .regs .thread) (atCondition size c)) m ≢ size = rw (owner, same-owners) held in
       next-right size _ (fed book (entry (s .regs .thread) (event.unlocks m)))
@@ -265,6 +289,7 @@ module _ (size : ℕ) (s : State) (book : Book) (y : Runs size s book) where
         free-most = u .free-most;
         stored = u .stored;
         valued = u .valued;
+        counted = rw (fed-unlocks book (s .regs .thread) m) (u .counted);
       })
       (record { runs = y .marked .runs; sound = y .marked .sound })
       refl

@@ -40,6 +40,7 @@ fault-right size s book r some k listed =
             free-most = r .steady .free-most;
             stored = r .steady .stored;
             valued = r .steady .valued;
+            counted = r .steady .counted;
           };
       mode =
           record {
@@ -92,6 +93,7 @@ module _ (size : ℕ) (words : List ℕ) (card : Card words) where
               free-most = r .steady .free-most;
               stored = r .steady .stored;
               valued = r .steady .valued;
+              counted = r .steady .counted;
             };
         marked = let m = marked size s book r e in record { runs = m .runs; sound = m .sound };
         some = some-thread size s book r e;

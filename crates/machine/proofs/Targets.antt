@@ -65,24 +65,27 @@ targetOf instr.newcond = 0
 targetOf instr.wait = 0
 targetOf instr.signal = 0
 targetOf instr.broadcast = 0
+targetOf instr.newsema = 0
+targetOf instr.up = 0
+targetOf instr.down = 0
 
 -- only opcodes 20 and 21 are jumps: a test over the table of opcodes
 plain-entry : ℤ → ℕ → Bool
 plain-entry k op = eqb op 20 || (eqb op 21 || eqb (targetOf (getD (opcodes k) op instr.halt)) 0)
 
-table : (k : ℤ) → every 38 (plain-entry k) ≡ true
+table : (k : ℤ) → every 41 (plain-entry k) ≡ true
 unfolding every plain-entry targetOf
 table k = refl
 
-past : (k : ℤ) (op : ℕ) → 38 ≤ op → getD (opcodes k) op instr.halt ≡ instr.halt
+past : (k : ℤ) (op : ℕ) → 41 ≤ op → getD (opcodes k) op instr.halt ≡ instr.halt
 past k op h = List·getD-eq-default (opcodes k) instr.halt h
 
 no-target : (op : ℕ) (k : ℤ) → op ≢ 20 → op ≢ 21 → targetOf (instructionOf op k) ≡ 0
 unfolding instructionOf plain-entry
 no-target op k a b =
-    less-or-not op 38
+    less-or-not op 41
     (λ h.
-    let row = every-true 38 (plain-entry k) (table k) op h in
+    let row = every-true 41 (plain-entry k) (table k) op h in
     eqb-true _ 0 (or-true (eqb op 21) _ (or-true (eqb op 20) _ row (ne-eqb op 20 a)) (ne-eqb op 21 b)))
     (λ h. rw (past k op h) (unfold targetOf in refl))
 
@@ -127,11 +130,11 @@ known : (over fits : Bool) → cond over verdict.BadOpcode (cond fits verdict.Fi
 known true fits e = absurd (let z : _≡_ {A = ℕ} 0 1 = cc in omega arith)
 known false fits e = refl
 
-pub opcode-known : (n w : ℕ) → checkOf (lastOf n) w ≡ verdict.Fine → opcodeOf w ≤ 37
-opcode-known n w e = ltb-false 37 (opcodeOf w) (known (ltb 37 (opcodeOf w)) (allows (ruleOf (opcodeOf w)) (lastOf n) (operandOf w)) e)
+pub opcode-known : (n w : ℕ) → checkOf (lastOf n) w ≡ verdict.Fine → opcodeOf w ≤ 40
+opcode-known n w e = ltb-false 40 (opcodeOf w) (known (ltb 40 (opcodeOf w)) (allows (ruleOf (opcodeOf w)) (lastOf n) (operandOf w)) e)
 
 pub operand-allowed : (n w : ℕ) → checkOf (lastOf n) w ≡ verdict.Fine → allows (ruleOf (opcodeOf w)) (lastOf n) (operandOf w) ≡ true
-operand-allowed n w e = allowed (ltb 37 (opcodeOf w)) (allows (ruleOf (opcodeOf w)) (lastOf n) (operandOf w)) e
+operand-allowed n w e = allowed (ltb 40 (opcodeOf w)) (allows (ruleOf (opcodeOf w)) (lastOf n) (operandOf w)) e
 
 pub target-in : (n w : ℕ) → 1 ≤ n → checkOf (lastOf n) w ≡ verdict.Fine → targetOf (decoded w) < n
 target-in n w h e = target-at n (opcodeOf w) (operandOf w) h (operand-allowed n w e)
@@ -153,6 +156,6 @@ all-fine n i (w ∷ ws) e (suc k) h = all-fine n (suc i) ws (good-word (checkOf 
 pub record Card (words : List ℕ) : Type 0 where
   pub some : 1 ≤ length words
   pub most : length words ≤ 4096
-  pub opcodes : (i : ℕ) → i < length words → opcodeOf (getD words i 0) ≤ 37
+  pub opcodes : (i : ℕ) → i < length words → opcodeOf (getD words i 0) ≤ 40
   pub permitted : (i : ℕ) → i < length words → allows (ruleOf (opcodeOf (getD words i 0))) (lastOf (length words)) (operandOf (getD words i 0)) ≡ true
   pub targets : (i : ℕ) → i < length words → targetOf (decoded (getD words i 0)) < length words

@@ -45,18 +45,24 @@ feeds m now thread (event.creates v) =
     neither (λ q. absurd (let z : _≡_ {A = ℕ} 0 1 = cc in omega arith)) (λ q. absurd (let z : _≡_ {A = ℕ} 0 1 = cc in omega arith)) refl refl
 feeds m now thread event.ends =
     neither (λ q. absurd (let z : _≡_ {A = ℕ} 0 1 = cc in omega arith)) (λ q. absurd (let z : _≡_ {A = ℕ} 0 1 = cc in omega arith)) refl refl
+feeds m now thread (event.opens n v) =
+    neither (λ q. absurd (let z : _≡_ {A = ℕ} 0 1 = cc in omega arith)) (λ q. absurd (let z : _≡_ {A = ℕ} 0 1 = cc in omega arith)) refl refl
+feeds m now thread (event.ups k) =
+    neither (λ q. absurd (let z : _≡_ {A = ℕ} 0 1 = cc in omega arith)) (λ q. absurd (let z : _≡_ {A = ℕ} 0 1 = cc in omega arith)) refl refl
+feeds m now thread (event.downs k) =
+    neither (λ q. absurd (let z : _≡_ {A = ℕ} 0 1 = cc in omega arith)) (λ q. absurd (let z : _≡_ {A = ℕ} 0 1 = cc in omega arith)) refl refl
 feeds m now thread event.other =
     neither (λ q. absurd (let z : _≡_ {A = ℕ} 0 1 = cc in omega arith)) (λ q. absurd (let z : _≡_ {A = ℕ} 0 1 = cc in omega arith)) refl refl
 
 -- ---- along a trace
 
 module _ (trace : List Entry) where
-  book-next : (j : ℕ) → j < length trace → bookAt trace (suc j) ≡ fed (bookAt trace j) (entryAt trace j)
+  pub book-next : (j : ℕ) → j < length trace → bookAt trace (suc j) ≡ fed (bookAt trace j) (entryAt trace j)
   unfolding bookOf
   book-next j h =
       rw (take-suc trace j (record { thread = 0; event = event.other }) h, book-append blank (take j trace) (entryAt trace j ∷ []))
 
-  book-past : (j : ℕ) → length trace ≤ j → bookAt trace (suc j) ≡ bookAt trace j
+  pub book-past : (j : ℕ) → length trace ≤ j → bookAt trace (suc j) ≡ bookAt trace j
   book-past j h = rw (take-all (suc j) trace (omega arith), take-all j trace h)
 
   -- what the next instruction does to a mutex

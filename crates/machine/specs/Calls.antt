@@ -20,7 +20,8 @@ use Rattle.machine.specs.declared.answers.Answer.{Answer}
 use Rattle.machine.specs.declared.answers.Answer.the-variants.{Halted, Running, Stuck, Faulted, Refused}
 use Rattle.machine.specs.declared.registers.Registers.{Registers}
 
--- what a call is lent, and what it leaves: the store, the tables, the ended threads' values, and the registers
+-- what a call is lent, and what it leaves: the store, the tables, the values (what the ended threads ended with, and the semaphores' counts), and
+-- the registers
 pub record Box : Type 0 where
   pub store : List ℤ
   pub tables : List ℕ

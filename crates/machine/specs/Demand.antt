@@ -26,9 +26,9 @@ waitsIn tables t from (suc k) = count t (queue tables from) + waitsIn tables t (
 abbrev pub runnerOf : ℕ → State → List ℕ
 runnerOf size s = cond (eqb (s .regs .thread) size) [] (s .regs .thread ∷ [])
 
--- in how many places a thread is: running, the ready queue, and every wait queue of mutexes, conditions and awaited threads
+-- in how many places a thread is: running, the ready queue, and every wait queue of mutexes, conditions, semaphores and awaited threads
 unfoldable pub placesOf : ℕ → State → ℕ → ℕ
-placesOf size s t = count t (runnerOf size s) + waitsIn (s .tables) t ready (1 + 5 * size)
+placesOf size s t = count t (runnerOf size s) + waitsIn (s .tables) t ready (1 + 6 * size)
 
 -- a mutex's owner, as a list of one name or none
 abbrev pub holderOf : ℕ → Tables → ℕ → List ℕ
@@ -93,10 +93,14 @@ pub record Claim (size : ℕ) (calls : List Call) (box : Box) : Type 0 where
   pub fair : Fair size (stateOf size (played size calls box .box)) (bookOf blank (played size calls box .trace))
   pub sound : Each NotDamaged (played size calls box .answers)
 
--- the demand for a box of any size: any accepted card whose global cells it has, any lent memory of the right sizes, any list of step and
--- run calls
-abbrev pub DemandFor : ℕ → Type 0
-DemandFor size =
+-- something holds of a card, a list of calls and the box that set-up leaves
+abbrev pub Holds : Type 1
+Holds = List ℕ → List Call → Box → Type 0
+
+-- it does so in a box of any size: for any accepted card whose global cells it has, any lent memory of the right sizes, any list of step and run
+-- calls
+abbrev pub AfterCalls : ℕ → Holds → Type 0
+AfterCalls size P =
     (card : List ℕ) (cells : ℕ) (lent : Box) (calls : List Call) →
     readOf card ≡ reading.Accepted cells →
     cells ≤ shared size →
@@ -104,15 +108,22 @@ DemandFor size =
     length (lent .tables) ≡ tablesSize size →
     length (lent .values) ≡ valuesSize size →
     Each (Fitting card) calls →
-    Claim size calls (setUp size card lent .box)
+    P card calls (setUp size card lent .box)
 
--- and for the paper's box, where every accepted card's global cells are there
-abbrev pub Demand3 : Type 0
-Demand3 =
+-- and in the paper's box, where every accepted card's global cells are there
+abbrev pub InPaperBox : Holds → Type 0
+InPaperBox P =
     (card : List ℕ) (cells : ℕ) (lent : Box) (calls : List Call) →
     readOf card ≡ reading.Accepted cells →
     length (lent .store) ≡ 8192 →
     length (lent .tables) ≡ tablesSize full →
-    length (lent .values) ≡ 32 →
+    length (lent .values) ≡ 64 →
     Each (Fitting card) calls →
-    Claim full calls (setUp full card lent .box)
+    P card calls (setUp full card lent .box)
+
+-- the demand
+abbrev pub DemandFor : ℕ → Type 0
+DemandFor size = AfterCalls size (λ card calls box. Claim size calls box)
+
+abbrev pub Demand3 : Type 0
+Demand3 = InPaperBox (λ card calls box. Claim full calls box)

@@ -9,10 +9,10 @@ use lib.Seq.{sets}
 use lib.Signed.{leZ, ltZ, mag, quotZ, remZ}
 use Rattle.machine.specs.Instructions.{Instruction}
 use Rattle.machine.specs.Instructions as instr
-use Rattle.machine.specs.Registers.{halted, withCells, withFp, withFree, withMade, withPc, withState}
-use Rattle.machine.specs.Size.{conditionLimit, mutexLimit, shared, stackAt}
-use Rattle.machine.specs.State.{State, below, blocked, cell, ends, left, minusOne, newCells, newFp, newStack, next, sharedCell, top, withRegs, withStore, withTables, written}
-use Rattle.machine.specs.Tables.{atCondition, atEnd, atMutex, ended, owned, ownerOf, ownsAny, placeOf, ready, saved, sent, unlocked, wakeAll, wakeFirst}
+use Rattle.machine.specs.Registers.{halted, withCells, withFp, withFree, withMade, withPc, withSemaphores, withState}
+use Rattle.machine.specs.Size.{conditionLimit, mutexLimit, semaphoreLimit, shared, stackAt}
+use Rattle.machine.specs.State.{State, below, blocked, cell, ends, left, minusOne, newCells, newFp, newStack, next, semaphoreCount, sharedCell, top, withCount, withRegs, withStore, withTables, written}
+use Rattle.machine.specs.Tables.{atCondition, atEnd, atMutex, atSemaphore, ended, owned, ownerOf, ownsAny, placeOf, ready, saved, sent, unlocked, wakeAll, wakeFirst}
 
 -- an instruction is carried out, or it is a fault with its number
 pub data Outcome : Type 0 where
@@ -150,6 +150,10 @@ module _ (size n : ℕ) (s : State) where
   abbrev pub aCondition : ℤ → (ℕ → Outcome) → Outcome
   aCondition v f = within v (s .regs .conditions) 32 f
 
+  -- 34: "no such semaphore, beside 27" (change request Four)
+  abbrev pub aSemaphore : ℤ → (ℕ → Outcome) → Outcome
+  aSemaphore v f = within v (s .regs .semaphores) 34 f
+
   -- 28: "unlock or wait by another than the owner"
   unfoldable pub owns : ℕ → Outcome → Outcome
   owns m o = cond (eqb (ownerOf (s .tables) m) (s .regs .thread)) o (fault 28)
@@ -182,6 +186,42 @@ module _ (size n : ℕ) (s : State) where
 
   abbrev pub waiting : ℕ → ℕ → Outcome
   waiting c m = owns m (done (waited c m))
+
+  -- Semaphores (change request Four). The lectures' bodies Down and Up (document 000) lower and raise the count, and test it, as these do. They
+  -- differ so: there a semaphore is a mutex, a condition and a cell, and each body locks the mutex first and unlocks it last, so that threads come in
+  -- the order of that lock, may wait for it even where the count is positive, and a woken one waits for it once more before its Down is over. Here
+  -- each is one step: who is first is who executes it first, and a woken thread's down is over with the up that woke it. The count is no cell that a
+  -- store could reach, 24 leaves no mutex locked, and a negative starting count, where nobody waits, is refused.
+
+  -- "newsema replaces its starting count on top by the next number, or by −1 exactly if 32 were made"
+  abbrev pub semaphoreMade : ℤ → State
+  semaphoreMade starting =
+      withRegs (withCount size (replaced (pos (s .regs .semaphores))) (s .regs .semaphores) starting)
+      (withSemaphores (s .regs) (s .regs .semaphores + 1))
+
+  -- 30: "a negative starting count, tested before the room"
+  unfoldable pub opening : ℤ → Outcome
+  opening (pos starting) =
+      cond (ltb (s .regs .semaphores) (semaphoreLimit size)) (done (semaphoreMade (pos starting))) (done (replaced minusOne))
+  opening (negsuc k) = fault 30
+
+  -- "up pops and raises the count; if it is then not positive, the first waiter goes to the ready tail"; 24: "an up at 2,147,483,647"
+  abbrev pub raised : ℕ → ℤ → State
+  raised k count =
+      let up = withCount size (popped 1) k count in
+      cond (leZ count (pos 0)) (withTables up (wakeFirst (s .tables) (atSemaphore size k))) up
+
+  abbrev pub raising : ℕ → Outcome
+  raising k = fits (semaphoreCount size (s .values) k +ℤ pos 1) λ count. done (raised k count)
+
+  -- "down pops and lowers the count; if it is now negative, the thread waits in the semaphore's queue and Next follows"
+  abbrev pub lowered : ℕ → ℤ → State
+  lowered k count =
+      let down = withCount size (popped 1) k count in
+      cond (ltZ count (pos 0)) (blocked size down (atSemaphore size k)) down
+
+  abbrev pub lowering : ℕ → Outcome
+  lowering k = done (lowered k (semaphoreCount size (s .values) k -ℤ pos 1))
 
   unfoldable pub exec : Instruction → Outcome
   exec instr.halt = done (withRegs s (withState (s .regs) halted (s .regs .thread)))
@@ -235,3 +275,6 @@ module _ (size n : ℕ) (s : State) where
       (aCondition (top size s) λ c. done (withTables (popped 1) (wakeFirst (s .tables) (atCondition size c))))
   exec instr.broadcast =
       needs 1 depth (aCondition (top size s) λ c. done (withTables (popped 1) (wakeAll (s .tables) (atCondition size c))))
+  exec instr.newsema = needs 1 depth (opening (top size s))
+  exec instr.up = needs 1 depth (aSemaphore (top size s) raising)
+  exec instr.down = needs 1 depth (aSemaphore (top size s) lowering)

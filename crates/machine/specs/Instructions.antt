@@ -1,4 +1,4 @@
--- "Opcodes": the 38 instructions, in the paper's order, and the instruction that an opcode and an operand are.
+-- "Opcodes": the 41 instructions, in the paper's order (the last three are change request Four's), and the instruction that an opcode and an operand are.
 use Prim.Native.Nat.{ℕ}
 use mathlib.Core.List.{List, [], _∷_}
 use lib.IntN.{ℤ, natAbs}
@@ -13,7 +13,7 @@ pub data Instruction : Type 0 where
   alloc : ℕ → Instruction
   pop dup add sub mul div «mod» neg eq neq less leq not : Instruction
   jump jumpz : ℕ → Instruction
-  mark call return new create yield exit join finalize newmutex lock unlock newcond wait signal broadcast : Instruction
+  mark call return new create yield exit join finalize newmutex lock unlock newcond wait signal broadcast newsema up down : Instruction
 
 -- opcode k's instruction is entry k, counted from 0
 abbrev pub opcodes : ℤ → List Instruction
@@ -56,6 +56,9 @@ opcodes k =
     ∷ wait
     ∷ signal
     ∷ broadcast
+    ∷ newsema
+    ∷ up
+    ∷ down
     ∷ []
 
 -- an accepted card has no opcode past the last

@@ -5,7 +5,7 @@ use mathlib.Core.Bool.{true, false}
 use mathlib.Core.List.{List, [], _∷_, _++_}
 use mathlib.Core.Logic.{_⊎_, _≢_}
 use mathlib.Core.Path.{_≡_}
-use lib.IntN.{pos}
+use lib.IntN.{negsuc, pos}
 use lib.ListN.{length}
 use Rattle.card.specs.Image.{readOf}
 use Rattle.card.specs.declared.reader.Reading.the-variants as reading
@@ -16,10 +16,10 @@ use Rattle.machine.specs.Registers.{isFault, isRunning, stopped, zeros}
 use Rattle.machine.specs.Runner.{lent}
 use Rattle.machine.specs.Sessions.{card, word}
 use Rattle.machine.specs.Size.{full, shared, storeSize, tablesSize, valuesSize}
-use Rattle.machine.specs.State.{State, start, withRegs}
+use Rattle.machine.specs.State.{State, semaphoreCount, start, withRegs}
 use Rattle.machine.specs.Step.{carried, run}
 use Rattle.machine.specs.Step as steps
-use Rattle.machine.specs.Tables.{Tables, atMutex, ownerOf, queue}
+use Rattle.machine.specs.Tables.{Tables, atMutex, atSemaphore, ownerOf, queue}
 use Rattle.machine.specs.WellFormed.{wellFormed}
 use Rattle.machine.specs.declared.answers.Answer.the-variants.{Refused, Running}
 
@@ -138,8 +138,25 @@ contended =
 abbrev pub contention : Tables
 contention = stateOf full (played full (runOn contended 8 ∷ []) (setUp full contended (lent full) .box) .box) .tables
 
--- none of this is empty: an accepted card exists, and after a list of calls a mutex has an owner and somebody waits for it
+-- a card on which a semaphore with a starting count of 1 is lowered three times, twice by other threads: loadc 1, newsema, down, loadc 9, loadc 0,
+-- create, yield, loadc 0, down; from 9 on, loadc 0, down (change request Four)
+abbrev pub lowered : List ℕ
+lowered =
+    card
+    (word 1 (pos 1) ∷ word 38 (pos 0) ∷ word 40 (pos 0) ∷ word 1 (pos 9) ∷ word 1 (pos 0) ∷ word 26 (pos 0) ∷ word 27 (pos 0) ∷ word 1 (pos 0) ∷ word 40 (pos 0)
+    ∷ word 1 (pos 0) ∷ word 40 (pos 0)
+    ∷ [])
+
+-- the box after a run of 11 steps on it: the machine is stuck
+abbrev pub awaited : State
+awaited = stateOf full (played full (runOn lowered 11 ∷ []) (setUp full lowered (lent full) .box) .box)
+
+-- none of this is empty: an accepted card exists, and after a list of calls a mutex has an owner and somebody waits for it; on another two wait for a
+-- semaphore, whose count says so
 pub record NotEmpty : Type 0 where
   pub accepted : readOf contended ≡ reading.Accepted 1
   pub owner : ownerOf contention 0 ≡ 0
   pub waiters : queue contention (atMutex 0) ≡ 1 ∷ []
+  pub semaphore : awaited .regs .semaphores ≡ 1
+  pub count : semaphoreCount full (awaited .values) 0 ≡ negsuc 1
+  pub in-line : queue (awaited .tables) (atSemaphore full 0) ≡ 1 ∷ 0 ∷ []

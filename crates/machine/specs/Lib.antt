@@ -15,4 +15,5 @@ pub mod Runner
 pub mod Sessions
 pub mod Laws
 pub mod Order
+pub mod Semaphores
 pub mod Mistakes

@@ -1,5 +1,5 @@
 -- "Errors that look right": for each of the five a small card on which it would show, and what the definitions give instead; and the cases that
--- change requests Two and Three tell.
+-- change requests Two to Four tell.
 -- proofs/Mistakes.antt computes them.
 use Prim.Native.Nat.{ℕ}
 use mathlib.Core.List.{List, [], _∷_}
@@ -20,6 +20,9 @@ loadc k = word 1 (pos k)
 
 abbrev pop : ℕ
 pop = word 7 (pos 0)
+
+abbrev neg : ℕ
+neg = word 14 (pos 0)
 
 abbrev mark : ℕ
 mark = word 22 (pos 0)
@@ -65,6 +68,15 @@ signal = word 36 (pos 0)
 
 abbrev broadcast : ℕ
 broadcast = word 37 (pos 0)
+
+abbrev newsema : ℕ
+newsema = word 38 (pos 0)
+
+abbrev up : ℕ
+up = word 39 (pos 0)
+
+abbrev down : ℕ
+down = word 40 (pos 0)
 
 -- a run of m steps after setting up
 abbrev pub runIn : ℕ → List ℕ → ℕ → Called
@@ -129,6 +141,17 @@ overdrawn = newmutex ∷ lock ∷ pop ∷ return ∷ []
 abbrev pub NotMade : List ℕ → ℕ → Type 0
 NotMade list number = runIn few list 3 .answer ≡ Faulted number 2
 
+-- "30 a negative starting count, tested before the room" (change request Four): all semaphores are made
+abbrev pub started : List ℕ
+started = loadc 0 ∷ newsema ∷ loadc 0 ∷ newsema ∷ loadc 0 ∷ newsema ∷ loadc 1 ∷ neg ∷ newsema ∷ []
+
+-- ".. the first waiter goes to the ready tail": thread 1, from 12 on, waits for the semaphore, and thread 2 is ready before the up
+abbrev pub queued : List ℕ
+queued =
+    loadc 0 ∷ newsema ∷ loadc 12 ∷ loadc 0 ∷ create ∷ yield ∷ loadc 14 ∷ loadc 0 ∷ create
+    ∷ loadc 0 ∷ up ∷ halt
+    ∷ loadc 0 ∷ down ∷ halt ∷ []
+
 pub record Excluded : Type 0 where
   -- thread 0 owns the mutex, and thread 1 waits for it
   pub woken-owner : ownerOf (tablesAfter woken 17) 0 ≡ 0
@@ -157,3 +180,8 @@ pub record Excluded : Type 0 where
   pub no-condition-broadcast : NotMade (newmutex ∷ newmutex ∷ broadcast ∷ []) 32
   -- "wait looks at the condition before the mutex"
   pub neither-wait : NotMade (loadc 0 ∷ loadc 0 ∷ wait ∷ []) 32
+  pub no-semaphore-up : NotMade (newmutex ∷ newmutex ∷ up ∷ []) 34
+  pub no-semaphore-down : NotMade (newmutex ∷ newmutex ∷ down ∷ []) 34
+  pub started-fault : runIn few started 9 .answer ≡ Faulted 30 8
+  -- both are ready, thread 2 first
+  pub queued-ready : queue (tablesAfter queued 13) ready ≡ 2 ∷ 1 ∷ []

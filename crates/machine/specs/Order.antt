@@ -5,12 +5,10 @@ use mathlib.Core.List.{List, [], _∷_}
 use mathlib.Core.Logic.{_≢_}
 use mathlib.Core.Path.{_≡_}
 use lib.ListN.{length, drop, getD, take}
-use Rattle.card.specs.Image.{readOf}
-use Rattle.card.specs.declared.reader.Reading.the-variants as reading
 use Rattle.machine.specs.Book.{Book, Entry, blank, bookOf, locks, other, unlocks}
-use Rattle.machine.specs.Calls.{Box, setUp, stateOf}
-use Rattle.machine.specs.Demand.{Call, Each, Fitting, holderOf, played}
-use Rattle.machine.specs.Size.{full, mutexLimit, shared, storeSize, tablesSize, valuesSize}
+use Rattle.machine.specs.Calls.{Box, stateOf}
+use Rattle.machine.specs.Demand.{AfterCalls, Call, Each, Fitting, InPaperBox, holderOf, played}
+use Rattle.machine.specs.Size.{full, mutexLimit}
 use Rattle.machine.specs.Tables.{Tables, ownerOf}
 
 -- the book after the first j instructions
@@ -92,23 +90,8 @@ pub record Served (size : ℕ) (card : List ℕ) (calls : List Call) (box : Box)
 
 -- for a box of any size, as demand 3
 abbrev pub OrderFor : ℕ → Type 0
-OrderFor size =
-    (card : List ℕ) (cells : ℕ) (lent : Box) (calls : List Call) →
-    readOf card ≡ reading.Accepted cells →
-    cells ≤ shared size →
-    length (lent .store) ≡ storeSize size →
-    length (lent .tables) ≡ tablesSize size →
-    length (lent .values) ≡ valuesSize size →
-    Each (Fitting card) calls →
-    Served size card calls (setUp size card lent .box)
+OrderFor size = AfterCalls size (Served size)
 
 -- and for the paper's box
 abbrev pub Order3 : Type 0
-Order3 =
-    (card : List ℕ) (cells : ℕ) (lent : Box) (calls : List Call) →
-    readOf card ≡ reading.Accepted cells →
-    length (lent .store) ≡ 8192 →
-    length (lent .tables) ≡ tablesSize full →
-    length (lent .values) ≡ 32 →
-    Each (Fitting card) calls →
-    Served full card calls (setUp full card lent .box)
+Order3 = InPaperBox (Served full)

@@ -5,11 +5,14 @@ use mathlib.Core.Bool.{true}
 use mathlib.Core.List.{List}
 use mathlib.Core.Logic.{_≢_}
 use mathlib.Core.Path.{_≡_}
-use lib.ListN.{getD}
+use lib.IntN.{ℤ}
+use lib.ListN.{getD, length}
 use Rattle.machine.specs.Lists.{count}
 use Rattle.machine.specs.Registers.{faulted, halted, isFault, running, stuck}
-use Rattle.machine.specs.Size.{conditionLimit, mutexLimit, shared}
-use Rattle.machine.specs.Tables.{Tables, active, atCondition, atEnd, atMutex, ended, ownerOf, placeOf, ready, unmade}
+use Rattle.machine.specs.Size.{conditionLimit, mutexLimit, semaphoreLimit, shared}
+use Rattle.machine.specs.State.{semaphoreCount}
+use Rattle.machine.specs.Tables.{Tables, active, atCondition, atEnd, atMutex, atSemaphore, ended, ownerOf, placeOf, queue, ready, unmade}
+use Rattle.machine.specs.WellFormed.{shortfall}
 use Rattle.machine.specs.declared.registers.Registers.{Registers}
 
 -- "PC 0 to 4,096, SP −1 to 127, FP 2 to 127"
@@ -23,43 +26,45 @@ pub record Frame (pc cells fp : ℕ) : Type 0 where
 abbrev pub SavedFrame : Tables → ℕ → Type 0
 SavedFrame tables t = Frame (getD (tables .pcs) t 0) (getD (tables .depths) t 0) (getD (tables .frames) t 0)
 
--- "counts in range": threads, mutexes and conditions made
-pub record Counts (size threads mutexes conditions : ℕ) : Type 0 where
+-- "counts in range": threads, mutexes, conditions and semaphores made
+pub record Counts (size threads mutexes conditions semaphores : ℕ) : Type 0 where
   pub some-thread : 1 ≤ threads
   pub threads-fit : threads ≤ size
   pub mutexes-fit : mutexes ≤ mutexLimit size
   pub conditions-fit : conditions ≤ conditionLimit size
+  pub semaphores-fit : semaphores ≤ semaphoreLimit size
 
 -- the line holds each thread once, and nothing else
 pub record Line (size : ℕ) (line : List ℕ) : Type 0 where
   pub once : (t : ℕ) → t < size → count t line ≡ 1
   pub no-other : (t : ℕ) → size ≤ t → count t line ≡ 0
 
--- what a place asks where a thread waits there, for so many threads, mutexes and conditions made
-pub record Awaited (size threads mutexes conditions : ℕ) (tables : Tables) (place : ℕ) : Type 0 where
+-- what a place asks where a thread waits there, for so many threads, mutexes, conditions and semaphores made
+pub record Awaited (size threads mutexes conditions semaphores : ℕ) (tables : Tables) (place : ℕ) : Type 0 where
   -- free mutexes, and what isn't made yet, have no waiters
   pub for-mutex : (m : ℕ) → m < mutexLimit size → place ≡ atMutex m → (m < mutexes) × (ownerOf tables m ≢ size)
   pub for-condition : (c : ℕ) → c < conditionLimit size → place ≡ atCondition size c → c < conditions
+  pub for-semaphore : (k : ℕ) → k < semaphoreLimit size → place ≡ atSemaphore size k → k < semaphores
   -- ended threads have no waiters
   pub for-end : (u : ℕ) → place ≡ atEnd size u → (u < threads) × (placeOf tables u ≢ ended)
 
--- one thread's place, for so many threads, mutexes and conditions made and the thread that runs
-pub record Placed (size threads mutexes conditions run : ℕ) (tables : Tables) (t : ℕ) : Type 0 where
+-- one thread's place, for so many of each made and the thread that runs
+pub record Placed (size threads mutexes conditions semaphores run : ℕ) (tables : Tables) (t : ℕ) : Type 0 where
   -- unmade threads are in no place
   pub not-made : threads ≤ t → placeOf tables t ≡ unmade
   pub is-made : t < threads → unmade < placeOf tables t
   -- only the running thread is at the place of the running one
   pub only-run : placeOf tables t ≡ active → t ≡ run
   -- a thread that waits, waits for what is made
-  pub awaited : Awaited size threads mutexes conditions tables (placeOf tables t)
+  pub awaited : Awaited size threads mutexes conditions semaphores tables (placeOf tables t)
   -- a thread that is ready or waits has its registers saved
   pub kept : ready ≤ placeOf tables t → SavedFrame tables t
 
--- the tables, for so many threads, mutexes and conditions made and the thread that runs, or the size where none does
-pub record Tidy (size threads mutexes conditions run : ℕ) (tables : Tables) : Type 0 where
-  pub counts : Counts size threads mutexes conditions
+-- the tables, for so many of each made and the thread that runs, or the size where none does
+pub record Tidy (size threads mutexes conditions semaphores run : ℕ) (tables : Tables) : Type 0 where
+  pub counts : Counts size threads mutexes conditions semaphores
   pub line : Line size (tables .line)
-  pub placed : (t : ℕ) → t < size → Placed size threads mutexes conditions run tables t
+  pub placed : (t : ℕ) → t < size → Placed size threads mutexes conditions semaphores run tables t
   -- the running thread is one that was made, and in no queue
   pub runner : run ≢ size → (run < threads) × (placeOf tables run ≡ active)
   -- "owners are threads made, and what isn't made yet has neither owner .."
@@ -88,10 +93,12 @@ pub record Fault (state fault : ℕ) : Type 0 where
   pub listed : state ≡ faulted → isFault fault ≡ true
   pub none : state ≢ faulted → fault ≡ 0
 
-pub record Formed (size : ℕ) (r : Registers) (tables : Tables) : Type 0 where
-  pub tidy : Tidy size (r .threads) (r .mutexes) (r .conditions) (r .thread) tables
+pub record Formed (size : ℕ) (r : Registers) (tables : Tables) (values : List ℤ) : Type 0 where
+  pub tidy : Tidy size (r .threads) (r .mutexes) (r .conditions) (r .semaphores) (r .thread) tables
   pub frame : Frame (r .pc) (r .cells) (r .fp)
   pub free-least : 1 ≤ r .free
   pub free-most : r .free ≤ shared size
+  -- "the number waiting is the larger of 0 and minus the count" (change request Four)
+  pub levels : (k : ℕ) → k < r .semaphores → length (queue tables (atSemaphore size k)) ≡ shortfall (semaphoreCount size values k)
   pub mode : Mode size (r .state) (r .thread) tables
   pub number : Fault (r .state) (r .fault)

@@ -42,6 +42,7 @@ zeros =
       threads = 0;
       mutexes = 0;
       conditions = 0;
+      semaphores = 0;
     }
 
 -- registers with PC, with the number of cells, and with FP set
@@ -58,6 +59,7 @@ withPc r pc =
       threads = r .threads;
       mutexes = r .mutexes;
       conditions = r .conditions;
+      semaphores = r .semaphores;
     }
 
 abbrev pub withCells : Registers → ℕ → Registers
@@ -73,6 +75,7 @@ withCells r cells =
       threads = r .threads;
       mutexes = r .mutexes;
       conditions = r .conditions;
+      semaphores = r .semaphores;
     }
 
 abbrev pub withFp : Registers → ℕ → Registers
@@ -88,6 +91,7 @@ withFp r fp =
       threads = r .threads;
       mutexes = r .mutexes;
       conditions = r .conditions;
+      semaphores = r .semaphores;
     }
 
 -- with the next free shared cell
@@ -104,9 +108,10 @@ withFree r free =
       threads = r .threads;
       mutexes = r .mutexes;
       conditions = r .conditions;
+      semaphores = r .semaphores;
     }
 
--- with the counts of what was made
+-- with the counts of the threads, mutexes and conditions made
 abbrev pub withMade : Registers → ℕ → ℕ → ℕ → Registers
 withMade r threads mutexes conditions =
     record {
@@ -120,6 +125,24 @@ withMade r threads mutexes conditions =
       threads = threads;
       mutexes = mutexes;
       conditions = conditions;
+      semaphores = r .semaphores;
+    }
+
+-- with the count of the semaphores made (change request Four)
+abbrev pub withSemaphores : Registers → ℕ → Registers
+withSemaphores r semaphores =
+    record {
+      state = r .state;
+      fault = r .fault;
+      thread = r .thread;
+      pc = r .pc;
+      cells = r .cells;
+      fp = r .fp;
+      free = r .free;
+      threads = r .threads;
+      mutexes = r .mutexes;
+      conditions = r .conditions;
+      semaphores = semaphores;
     }
 
 -- with the state and the running thread
@@ -136,6 +159,7 @@ withState r state thread =
       threads = r .threads;
       mutexes = r .mutexes;
       conditions = r .conditions;
+      semaphores = r .semaphores;
     }
 
 -- "PC advances past the instruction first"
@@ -148,7 +172,7 @@ switched r thread pc cells fp = withFp (withCells (withPc (withState r (r .state
 
 -- "Numbers given when it can't be done", "the table from 20 up": which numbers are faults is said here alone
 abbrev pub isFault : ℕ → Bool
-isFault number = leb 20 number && leb number 33
+isFault number = leb 20 number && leb number 34
 
 -- "Faults 20 up mark the machine faulted"; "the registers keep the number"
 abbrev pub stopped : Registers → ℕ → Registers
@@ -164,4 +188,5 @@ stopped r number =
       threads = r .threads;
       mutexes = r .mutexes;
       conditions = r .conditions;
+      semaphores = r .semaphores;
     }

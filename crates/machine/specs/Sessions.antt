@@ -126,8 +126,8 @@ sessions =
       line = "refused 5 13\n";
       results = [];
     }
-    -- P5 opcode 38 first: 4 at 9
-    ∷ record { image = 0 ∷ 0 ∷ 0 ∷ 9 ∷ 1 ∷ 0 ∷ 1 ∷ 0 ∷ 1 ∷ 38 ∷ 0 ∷ 0 ∷ 0 ∷ []; line = "refused 4 9\n"; results = [] }
+    -- P5 opcode 41 first: 4 at 9
+    ∷ record { image = 0 ∷ 0 ∷ 0 ∷ 9 ∷ 1 ∷ 0 ∷ 1 ∷ 0 ∷ 1 ∷ 41 ∷ 0 ∷ 0 ∷ 0 ∷ []; line = "refused 4 9\n"; results = [] }
     -- P6 newmutex, dup, lock, lock: stuck, 4 steps
     ∷ record { image = card (newmutex ∷ dup ∷ lock ∷ lock ∷ []); line = "stuck 4\n"; results = [] }
     -- P7 loadc 0, lock: 27 at PC 1

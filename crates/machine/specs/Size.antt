@@ -25,13 +25,17 @@ mutexLimit size = 2 * size
 abbrev pub conditionLimit : ℕ → ℕ
 conditionLimit size = 2 * size
 
+-- how many semaphores (change request Four)
+abbrev pub semaphoreLimit : ℕ → ℕ
+semaphoreLimit size = size
+
 -- the lent tables' numbers: see Tables.antt
 abbrev pub tablesSize : ℕ → ℕ
 tablesSize size = 7 * size
 
--- what threads ended with, one value each
+-- the lent values: what each thread ended with, and beside them the count of each semaphore
 abbrev pub valuesSize : ℕ → ℕ
-valuesSize size = size
+valuesSize size = 2 * size
 
 -- the paper's box
 abbrev pub full : ℕ
@@ -58,3 +62,7 @@ mutexes-full = refl
 
 conditions-full : conditionLimit full ≡ 64
 conditions-full = refl
+
+-- "or by −1 exactly if 32 were made" (change request Four)
+semaphores-full : semaphoreLimit full ≡ 32
+semaphores-full = refl

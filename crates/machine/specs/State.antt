@@ -1,5 +1,5 @@
 -- "The machine": its state, cells and stacks, a new thread, setting up, Next and ending.
-use Prim.Native.Nat.{ℕ, _-_, _*_}
+use Prim.Native.Nat.{ℕ, _+_, _-_, _*_}
 use mathlib.Core.Bool.{cond}
 use mathlib.Core.List.{List, _∷_}
 use lib.IntN.{ℤ, pos, negsuc}
@@ -12,6 +12,7 @@ use Rattle.machine.specs.declared.numbers.First.{First}
 use Rattle.machine.specs.declared.numbers.First.the-variants.{Waiter, Nobody}
 use Rattle.machine.specs.declared.registers.Registers.{Registers}
 
+-- the values are what each thread ended with, then the count of each semaphore
 pub record State : Type 0 where
   pub store : List ℤ
   pub tables : Tables
@@ -29,6 +30,14 @@ withTables s tables = record { store = s .store; tables = tables; values = s .va
 
 abbrev pub withRegs : State → Registers → State
 withRegs s regs = record { store = s .store; tables = s .tables; values = s .values; regs = regs }
+
+-- the count of a semaphore, which is lent beside the ended threads' values (change request Four)
+abbrev pub semaphoreCount : ℕ → List ℤ → ℕ → ℤ
+semaphoreCount size values k = getD values (size + k) (pos 0)
+
+-- a semaphore's count is set
+abbrev pub withCount : ℕ → State → ℕ → ℤ → State
+withCount size s k v = record { store = s .store; tables = s .tables; values = set (s .values) (size + k) v; regs = s .regs }
 
 -- a shared cell
 abbrev pub sharedCell : State → ℕ → ℤ
@@ -91,6 +100,7 @@ start size cells =
             threads = 1;
             mutexes = 0;
             conditions = 0;
+            semaphores = 0;
           };
     }
 

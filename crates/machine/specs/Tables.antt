@@ -55,19 +55,22 @@ active = 2
 abbrev pub ready : ℕ
 ready = 3
 
--- .. waiting for a mutex, for a condition, or for the end of a thread
+-- .. waiting for a mutex, for a condition, for a semaphore, or for the end of a thread
 abbrev pub atMutex : ℕ → ℕ
 atMutex m = 4 + m
 
 abbrev pub atCondition : ℕ → ℕ → ℕ
 atCondition size c = 4 + 2 * size + c
 
+abbrev pub atSemaphore : ℕ → ℕ → ℕ
+atSemaphore size k = 4 + 4 * size + k
+
 abbrev pub atEnd : ℕ → ℕ → ℕ
-atEnd size t = 4 + 4 * size + t
+atEnd size t = 4 + 5 * size + t
 
 -- one past the last place
 abbrev pub placeLimit : ℕ → ℕ
-placeLimit size = 4 + 5 * size
+placeLimit size = 4 + 6 * size
 
 abbrev pub placeOf : Tables → ℕ → ℕ
 placeOf tables t = getD (tables .places) t 0
@@ -148,7 +151,7 @@ allReady (t ∷ rest) tables = allReady rest (sent tables t ready)
 abbrev pub wakeAll : Tables → ℕ → Tables
 wakeAll tables place = allReady (queue tables place) tables
 
--- "sends the first waiter, if any, to the ready tail"
+-- "sends the first waiter, if any, to the ready tail"; "the first waiter goes to the ready tail"
 abbrev pub wakeOne : First → Tables → Tables
 wakeOne (Waiter t) tables = sent tables (t .0) ready
 wakeOne Nobody tables = tables

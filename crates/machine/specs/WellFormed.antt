@@ -1,14 +1,15 @@
 -- "Well formed": each clause of the paper as a test that computes. Plain.antt has the plain reading of each, proved from it and back.
-use Prim.Native.Nat.{ℕ, _+_, _-_, _*_}
+use Prim.Native.Nat.{ℕ, suc, _+_, _-_, _*_}
 use mathlib.Core.Bool.{Bool, true, cond, not as negate, _&&_, _||_}
 use mathlib.Core.List.{List, [], _∷_}
 use lib.Dec.{eqb, leb, ltb}
-use lib.IntN.{ℤ}
+use lib.IntN.{ℤ, pos, negsuc}
 use lib.ListN.{length, getD}
 use Rattle.machine.specs.Lists.{count, every, some}
 use Rattle.machine.specs.Registers.{faulted, halted, isFault, running, stuck}
-use Rattle.machine.specs.Size.{conditionLimit, mutexLimit, shared, tablesSize, valuesSize}
-use Rattle.machine.specs.Tables.{Tables, active, anyLive, ended, isAt, lives, ownerOf, placeOf, ready, tablesOf, unmade}
+use Rattle.machine.specs.Size.{conditionLimit, mutexLimit, semaphoreLimit, shared, tablesSize, valuesSize}
+use Rattle.machine.specs.State.{semaphoreCount}
+use Rattle.machine.specs.Tables.{Tables, active, anyLive, atSemaphore, ended, isAt, lives, ownerOf, placeOf, queue, ready, tablesOf, unmade}
 use Rattle.machine.specs.declared.registers.Registers.{Registers}
 
 -- low ≤ x ≤ high
@@ -19,7 +20,8 @@ inRange low high x = leb low x && leb x high
 abbrev pub countsFit : ℕ → Registers → Bool
 countsFit size r =
     inRange 1 size (r .threads)
-    && (leb (r .mutexes) (mutexLimit size) && leb (r .conditions) (conditionLimit size))
+    && (leb (r .mutexes) (mutexLimit size)
+    && (leb (r .conditions) (conditionLimit size) && leb (r .semaphores) (semaphoreLimit size)))
 
 -- "PC 0 to 4,096, SP −1 to 127, FP 2 to 127", of the registers and of a saved thread
 abbrev pub frameFits : ℕ → ℕ → ℕ → Bool
@@ -45,12 +47,13 @@ abbrev pub lineFits : ℕ → List ℕ → Bool
 lineFits size line = allBelow size line && every size (λ t. eqb (count t line) 1)
 
 -- a thread that waits, waits for what is made: "free mutexes and ended threads have no waiters, .. and what isn't made yet has neither owner
--- nor waiters"
+-- nor waiters", semaphores too
 abbrev pub waitFits : ℕ → Registers → Tables → ℕ → Bool
 waitFits size r tables p =
     cond (ltb p (4 + 2 * size)) (ltb (p - 4) (r .mutexes) && negate (eqb (ownerOf tables (p - 4)) size))
     (cond (ltb p (4 + 4 * size)) (ltb (p - (4 + 2 * size)) (r .conditions))
-    (ltb (p - (4 + 4 * size)) (r .threads) && negate (eqb (placeOf tables (p - (4 + 4 * size))) ended)))
+    (cond (ltb p (4 + 5 * size)) (ltb (p - (4 + 4 * size)) (r .semaphores))
+    (ltb (p - (4 + 5 * size)) (r .threads) && negate (eqb (placeOf tables (p - (4 + 5 * size))) ended))))
 
 -- "each live thread in one place, ended and unmade ones in none": a thread's place by what it is
 abbrev pub threadFits : ℕ → Registers → Tables → ℕ → Bool
@@ -66,6 +69,16 @@ abbrev pub ownerFits : ℕ → Registers → Tables → ℕ → Bool
 ownerFits size r tables m =
     eqb (ownerOf tables m) size
     || (ltb m (r .mutexes) && (ltb (ownerOf tables m) (r .threads) && lives tables (ownerOf tables m)))
+
+-- "the larger of 0 and minus the count"
+abbrev pub shortfall : ℤ → ℕ
+shortfall (pos a) = 0
+shortfall (negsuc a) = suc a
+
+-- "the number waiting is the larger of 0 and minus the count", for a semaphore made (change request Four)
+abbrev pub levelFits : ℕ → Tables → List ℤ → ℕ → Bool
+levelFits size tables values k =
+    eqb (length (queue tables (atSemaphore size k))) (shortfall (semaphoreCount size values k))
 
 -- "the fault number is one of the table from 20 up when faulted, else 0"
 abbrev pub faultFits : Registers → Bool
@@ -83,16 +96,17 @@ stateFits size r tables =
     (eqb (r .state) halted && negate (anyLive size tables)))
     (eqb (r .state) running || (eqb (r .state) faulted || eqb (r .state) halted))
 
-unfoldable pub formed : ℕ → Registers → Tables → Bool
-formed size r tables =
+unfoldable pub formed : ℕ → Registers → Tables → List ℤ → Bool
+formed size r tables values =
     registersFit size r
     && (lineFits size (tables .line)
     && (every size (threadFits size r tables)
-    && (every (mutexLimit size) (ownerFits size r tables) && (faultFits r && stateFits size r tables))))
+    && (every (mutexLimit size) (ownerFits size r tables)
+    && (every (r .semaphores) (levelFits size tables values) && (faultFits r && stateFits size r tables)))))
 
 -- "a lent table of the wrong size .. is never well formed"
 abbrev pub tablesFit : ℕ → List ℕ → List ℤ → Bool
 tablesFit size tables values = eqb (length tables) (tablesSize size) && eqb (length values) (valuesSize size)
 
 unfoldable pub wellFormed : ℕ → Registers → List ℕ → List ℤ → Bool
-wellFormed size r tables values = tablesFit size tables values && formed size r (tablesOf size tables)
+wellFormed size r tables values = tablesFit size tables values && formed size r (tablesOf size tables) values

@@ -1,4 +1,4 @@
-// The machine's types: registers by value, the numbers of threads, mutexes and conditions, and the answers.
+// The machine's types: registers by value, the numbers of threads, mutexes, conditions and semaphores, and the answers.
 mod answers;
 mod numbers;
 mod registers;
@@ -7,5 +7,6 @@ pub use answers::Answer;
 pub use numbers::Condition;
 pub use numbers::First;
 pub use numbers::Mutex;
+pub use numbers::Semaphore;
 pub use numbers::Thread;
 pub use registers::Registers;

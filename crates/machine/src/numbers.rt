@@ -1,9 +1,11 @@
-// Numbers of threads, mutexes and conditions, each a type of its own: thread 3, mutex 3 and condition 3 are unrelated.
+// Numbers of threads, mutexes, conditions and semaphores, each a type of its own: thread 3, mutex 3 and condition 3 are unrelated.
 pub struct Thread(pub usize);
 
 pub struct Mutex(pub usize);
 
 pub struct Condition(pub usize);
+
+pub struct Semaphore(pub usize);
 
 // What a queue gives: its first waiter, or nobody.
 pub enum First {

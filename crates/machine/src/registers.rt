@@ -1,7 +1,7 @@
 // The registers. They go in by value and come back advanced.
 ghost use mathlib.Core.Path.{_≡_};
 ghost use Prim.Native.Nat.{_≤_};
-ghost use Rattle.machine.specs.Registers.{advanced, stopped, switched, withCells, withFp, withFree, withMade, withPc, withState};
+ghost use Rattle.machine.specs.Registers.{advanced, stopped, switched, withCells, withFp, withFree, withMade, withPc, withSemaphores, withState};
 use crate::numbers::Thread;
 
 // The order of the fields is for speed: with those that an instruction changes far apart, the compiler keeps each in a register of its own
@@ -10,7 +10,7 @@ pub struct Registers {
     // The next free shared cell.
     pub free: usize,
     pub pc: usize,
-    // How many threads, mutexes and conditions were made.
+    // How many threads, mutexes, conditions and semaphores were made.
     pub threads: usize,
     // The number of cells on the stack: SP is one less.
     pub cells: usize,
@@ -22,6 +22,7 @@ pub struct Registers {
     pub state: usize,
     // The number of the fault, 0 where there is none.
     pub fault: usize,
+    pub semaphores: usize,
     pub fp: usize,
 }
 
@@ -84,13 +85,21 @@ impl Registers {
         self
     }
 
-    // With other counts of what was made.
+    // With other counts of the threads, mutexes and conditions made.
     pub fn with_made(mut self, threads: usize, mutexes: usize, conditions: usize) -> Self
         ensures { λ r. ⌜ r ≡ withMade self threads mutexes conditions ⌝ }
     {
         self.threads = threads;
         self.mutexes = mutexes;
         self.conditions = conditions;
+        self
+    }
+
+    // With another count of the semaphores made.
+    pub fn with_semaphores(mut self, semaphores: usize) -> Self
+        ensures { λ r. ⌜ r ≡ withSemaphores self semaphores ⌝ }
+    {
+        self.semaphores = semaphores;
         self
     }
 

@@ -40,11 +40,11 @@ isFound k = isOpcode k (opcodeNamed (nameOf k))
 abbrev isRight : ℕ → Bool
 isRight k = isEntry k && (isShort k && (isWord k && isFound k))
 
-all-right : every 38 isRight ≡ true
+all-right : every 41 isRight ≡ true
 unfolding bytes every lacks namedFrom names padded same split table upTo
 all-right = refl
 
-pub table-length : length table ≡ 380
+pub table-length : length table ≡ 410
 unfolding bytes names padded split table
 table-length = refl
 
@@ -59,9 +59,9 @@ pub record Right (k : ℕ) : Type 0 where
   pub no-feed : lacks 10 (nameOf k) ≡ true
   pub found : opcodeNamed (nameOf k) ≡ Opcode k
 
-pub right : (k : ℕ) → k < 38 → Right k
+pub right : (k : ℕ) → k < 41 → Right k
 right k h =
-    let all = and-true (isEntry k) (isShort k && (isWord k && isFound k)) (every-true 38 isRight all-right k h) in
+    let all = and-true (isEntry k) (isShort k && (isWord k && isFound k)) (every-true 41 isRight all-right k h) in
     let more = and-true (isShort k) (isWord k && isFound k) (all .1) in
     let last = and-true (isWord k) (isFound k) (more .1) in
     let word = and-true (lacks 32 (nameOf k)) (lacks 10 (nameOf k)) (last .0) in
@@ -74,7 +74,7 @@ right k h =
     }
 
 -- the bytes of the table that `words::find` finds for an opcode
-pub part-is : (l : List ℕ) (k start r : ℕ) → l ≡ table → k < 38 → start ≡ 10 * k → r ≡ start + length (upTo 32 (drop start l)) → take (r - start) (drop start l) ≡ nameOf k
+pub part-is : (l : List ℕ) (k start r : ℕ) → l ≡ table → k < 41 → start ≡ 10 * k → r ≡ start + length (upTo 32 (drop start l)) → take (r - start) (drop start l) ≡ nameOf k
 part-is l k start r is h at e =
     part 32 l start r e ∙ rw (is, at) (right k h .entry)
 
@@ -96,14 +96,14 @@ named-from k (name ∷ rest) word opcode e = by (same name word) refl e (named-f
         let one : opcode - k ≡ suc (opcode - suc k) = omega (arith, r .0) in
         (omega (arith, r .0), omega (arith, r .1), rw one (r .2))
 
-pub named-is : (word : List ℕ) (opcode : ℕ) → opcodeNamed word ≡ Opcode opcode → (opcode < 38) × (nameOf opcode ≡ word)
+pub named-is : (word : List ℕ) (opcode : ℕ) → opcodeNamed word ≡ Opcode opcode → (opcode < 41) × (nameOf opcode ≡ word)
 named-is word opcode e =
     let r = named-from 0 names word opcode e in
     let all : opcode - 0 ≡ opcode = omega arith in
     (omega (arith, r .1, all-named), rw all at (r .2))
 
 -- the namedFrom from k on, by the name there
-module _ (word : List ℕ) (k : ℕ) (h : k < 38) where
+module _ (word : List ℕ) (k : ℕ) (h : k < 41) where
   at-name : namedFrom k (drop k names) word ≡ cond (same (nameOf k) word) (Opcode k) (namedFrom (k + 1) (drop (k + 1) names) word)
   unfolding namedFrom
   at-name = rw (add-one, drop-cons names k [] (omega (arith, h, all-named)))
@@ -114,12 +114,12 @@ module _ (word : List ℕ) (k : ℕ) (h : k < 38) where
   pub miss : same (nameOf k) word ≡ false → namedFrom k (drop k names) word ≡ namedFrom (k + 1) (drop (k + 1) names) word
   miss e = at-name ∙ rw e
 
-pub none-left : (word : List ℕ) (k : ℕ) → 38 ≤ k → namedFrom k (drop k names) word ≡ Unknown
+pub none-left : (word : List ℕ) (k : ℕ) → 41 ≤ k → namedFrom k (drop k names) word ≡ Unknown
 unfolding namedFrom
 none-left word k h = let past : length names ≤ k = omega (arith, h, all-named) in rw (drop-of-length-le names past)
 
 -- past the last opcode the name is empty, and nothing is written
-pub no-name : (k at : ℕ) (buffer : List ℕ) → 38 ≤ k → Puts (nameOf k) buffer at buffer at
+pub no-name : (k at : ℕ) (buffer : List ℕ) → 41 ≤ k → Puts (nameOf k) buffer at buffer at
 no-name k at buffer h =
     let past : length names ≤ k = omega (arith, h, all-named) in
     rw (List·getD-eq-default names [] past) (record { written = refl; reached = omega arith })

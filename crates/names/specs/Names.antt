@@ -10,12 +10,12 @@ use Rattle.words.specs.Words.{bytes, same, split}
 use Rattle.names.specs.declared.Named.{Named}
 use Rattle.names.specs.declared.Named.the-variants.{Opcode, Unknown}
 
--- "Opcodes: 0 halt, 1 loadc k, .. 37 broadcast": the names, in the order of their opcodes
+-- "Opcodes: 0 halt, 1 loadc k, .. 37 broadcast" and "38 newsema, 39 up, 40 down": the names, in the order of their opcodes
 unfoldable pub names : List (List ℕ)
 names =
     split 32
     (bytes
-    "halt loadc load store loadr storer alloc pop dup add sub mul div mod neg eq neq less leq not jump jumpz mark call return new create yield exit join finalize newmutex lock unlock newcond wait signal broadcast")
+    "halt loadc load store loadr storer alloc pop dup add sub mul div mod neg eq neq less leq not jump jumpz mark call return new create yield exit join finalize newmutex lock unlock newcond wait signal broadcast newsema up down")
 
 -- the name of an opcode
 abbrev pub nameOf : ℕ → List ℕ
@@ -48,11 +48,11 @@ padded (name ∷ rest) = take 10 (name ++ spaces) ++ padded rest
 unfoldable pub table : List ℕ
 table = padded names
 
--- a name for each of the 38 opcodes, and the last is broadcast's
-pub all-named : length names ≡ 38
+-- a name for each of the 41 opcodes, and the last is down's
+pub all-named : length names ≡ 41
 unfolding bytes names split
 all-named = refl
 
-last-named : nameOf 37 ≡ bytes "broadcast"
+last-named : nameOf 40 ≡ bytes "down"
 unfolding bytes names split
 last-named = refl

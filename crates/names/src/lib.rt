@@ -9,14 +9,14 @@ ghost use Rattle.words.specs.Words.{same};
 ghost use Rattle.names.specs.Names.{hasOperand, nameOf, opcodeNamed, table};
 use instruction::Rule;
 
-const COUNT: usize = 38;
+const COUNT: usize = 41;
 
 // The bytes that a name has in the table, at least the last of them a space.
 const WIDTH: usize = 10;
 
 // In the order of the opcodes, from 0.
-pub const TABLE: [u8; 380] =
-    *b"halt      loadc     load      store     loadr     storer    alloc     pop       dup       add       sub       mul       div       mod       neg       eq        neq       less      leq       not       jump      jumpz     mark      call      return    new       create    yield     exit      join      finalize  newmutex  lock      unlock    newcond   wait      signal    broadcast ";
+pub const TABLE: [u8; 410] =
+    *b"halt      loadc     load      store     loadr     storer    alloc     pop       dup       add       sub       mul       div       mod       neg       eq        neq       less      leq       not       jump      jumpz     mark      call      return    new       create    yield     exit      join      finalize  newmutex  lock      unlock    newcond   wait      signal    broadcast newsema   up        down      ";
 
 // What a word names.
 pub enum Named {
@@ -26,7 +26,7 @@ pub enum Named {
 
 fn put_entry(out: &mut [u8], at: usize, entries: &[u8], opcode: usize) -> usize
     requires { ⌜ now entries ≡ table ⌝ }
-    requires { ⌜ opcode < 38 ⌝ }
+    requires { ⌜ opcode < 41 ⌝ }
     requires { ⌜ at + 10 ≤ length (now out) ⌝ }
     ensures { λ r. ⌜ Puts (nameOf opcode) (now (out .entry)) at (now (out .exit)) r ⌝ }
 {
@@ -50,7 +50,7 @@ pub fn put_name(out: &mut [u8], at: usize, opcode: usize) -> usize
 // Whether a word is the name of an opcode.
 fn is_name(word: &[u8], entries: &[u8], opcode: usize) -> bool
     requires { ⌜ now entries ≡ table ⌝ }
-    requires { ⌜ opcode < 38 ⌝ }
+    requires { ⌜ opcode < 41 ⌝ }
     ensures { λ r. ⌜ r ≡ same (nameOf opcode) (now (word .entry)) ⌝ }
 {
     let start = WIDTH * opcode;

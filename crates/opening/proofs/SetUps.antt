@@ -38,13 +38,13 @@ module _ (size : ℕ) (image : List ℕ) (store : List ℤ) (tables : List ℕ) 
   unfolding setUp
   misfit-tables cells outcome e h k o = refused-gives 7 0 outcome (rw (e, eq-eqb _ _ h, ne-eqb _ _ k)) o
 
-  pub misfit-values : (cells : ℕ) (outcome : Outcome) → readOf image ≡ reading.Accepted cells → length store ≡ 256 * size → length tables ≡ 7 * size → length values ≢ size → outcome ≡ refusal 7 0 zeros →
+  pub misfit-values : (cells : ℕ) (outcome : Outcome) → readOf image ≡ reading.Accepted cells → length store ≡ 256 * size → length tables ≡ 7 * size → length values ≢ 2 * size → outcome ≡ refusal 7 0 zeros →
       Gives (setUp size image (boxed store tables values zeros)) outcome store tables values
   unfolding setUp
   misfit-values cells outcome e h k j o = refused-gives 7 0 outcome (rw (e, eq-eqb _ _ h, eq-eqb _ _ k, ne-eqb _ _ j)) o
 
   pub opened : (cells : ℕ) (r : Registers) (store′ : List ℤ) (tables′ : List ℕ) (values′ : List ℤ) → readOf image ≡ reading.Accepted cells →
-      length store ≡ 256 * size → length tables ≡ 7 * size → length values ≡ size → Started size cells store′ tables′ values′ r →
+      length store ≡ 256 * size → length tables ≡ 7 * size → length values ≡ 2 * size → Started size cells store′ tables′ values′ r →
       Gives (setUp size image (boxed store tables values zeros)) (record { answer = Running; count = 0; registers = r }) store′ tables′ values′
   unfolding setUp
   opened cells r store′ tables′ values′ e h k j s =

@@ -30,7 +30,7 @@ fn set_up_box(
             if tables.len() != 7 * size {
                 return refused(7, 0, no_registers());
             }
-            if values.len() != size {
+            if values.len() != 2 * size {
                 return refused(7, 0, no_registers());
             }
             let registers = setup::start(store, tables, values, size, cells as usize);
@@ -43,7 +43,7 @@ fn set_up_box(
     }
 }
 
-// Sets up the box of 32 threads: a store of 8,192 cells, tables of 224 numbers and 32 values, whatever they hold.
+// Sets up the box of 32 threads: a store of 8,192 cells, tables of 224 numbers and 64 values, whatever they hold.
 pub fn set_up(image: &[u8], store: &mut [i32], tables: &mut [usize], values: &mut [i32]) -> Outcome
     ensures { λ r. ⌜ Gives (setUp full (now (image .entry)) (boxed (now (store .entry)) (now (tables .entry)) (now (values .entry)) zeros)) r (now (store .exit)) (now (tables .exit)) (now (values .exit)) ⌝ }
 {

@@ -38,6 +38,7 @@ pub fn no_registers() -> Registers
         threads: 0,
         mutexes: 0,
         conditions: 0,
+        semaphores: 0,
     }
 }
 

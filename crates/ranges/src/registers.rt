@@ -15,7 +15,8 @@ fn counts_fit(r: Registers, size: usize) -> bool
     requires { ⌜ size ≤ 32 ⌝ }
     ensures { λ b. ⌜ b ≡ countsFit size r ⌝ }
 {
-    in_range(1, size, r.threads) && (r.mutexes <= 2 * size && r.conditions <= 2 * size)
+    in_range(1, size, r.threads)
+        && (r.mutexes <= 2 * size && (r.conditions <= 2 * size && r.semaphores <= size))
 }
 
 // PC, the number of cells and FP, of the registers or of a saved thread.
@@ -38,7 +39,7 @@ pub fn registers_fit(r: Registers, size: usize) -> bool
 fn is_fault(number: usize) -> bool
     ensures { λ b. ⌜ b ≡ isFault number ⌝ }
 {
-    in_range(20, 33, number)
+    in_range(20, 34, number)
 }
 
 // A faulted machine has the number of its fault, any other has none.

@@ -42,7 +42,7 @@ fn value(label: &[u8], v: i32) {
     text(b"\n");
 }
 
-fn results_of(values: &[i32; 32]) {
+fn results_of(values: &[i32; 64]) {
     value(b"P14 result of thread 0: ", values[0]);
     value(b"P14 result of thread 1: ", values[1]);
 }
@@ -51,7 +51,7 @@ fn results_of(values: &[i32; 32]) {
 fn results(image: &[u8]) {
     let mut store = [0i32; 8192];
     let mut tables = [0usize; 224];
-    let mut values = [0i32; 32];
+    let mut values = [0i32; 64];
     let up = cma::set_up(image, &mut store, &mut tables, &mut values);
     let r = up.registers;
     let ran = cma::run(image, &mut store, &mut tables, &mut values, r, 100);
@@ -64,7 +64,7 @@ fn results(image: &[u8]) {
 fn refused_set_up(image: &[u8]) {
     let mut store = [0i32; 8192];
     let mut tables = [0usize; 224];
-    let mut values = [0i32; 32];
+    let mut values = [0i32; 64];
     let up = cma::set_up(b"", &mut store, &mut tables, &mut values);
     let a = up.answer;
     outcome(b"set-up with no bytes: ", a, up.count);

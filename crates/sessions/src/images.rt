@@ -8,7 +8,7 @@ const P3: [u8; 17] = [0, 0, 0, 13, 2, 0, 1, 0, 2, 1, 0, 0, 7, 28, 0, 0, 0];
 
 const P4: [u8; 17] = [0, 0, 0, 13, 1, 0, 1, 0, 2, 1, 0, 0, 7, 20, 0, 0, 2];
 
-const P5: [u8; 17] = [0, 0, 0, 13, 1, 0, 1, 0, 2, 38, 0, 0, 7, 28, 0, 0, 0];
+const P5: [u8; 17] = [0, 0, 0, 13, 1, 0, 1, 0, 2, 41, 0, 0, 7, 28, 0, 0, 0];
 
 fn session(label: &[u8], image: &[u8]) {
     text(label);
@@ -20,5 +20,5 @@ pub fn refusals() {
     session(b"P2 loadc 7, exit: ", &P2);
     session(b"P3 version 2: ", &P3);
     session(b"P4 jump 2 as second of two: ", &P4);
-    session(b"P5 opcode 38 first: ", &P5);
+    session(b"P5 opcode 41 first: ", &P5);
 }

@@ -75,5 +75,6 @@ pub fn start(
         threads: 1,
         mutexes: 0,
         conditions: 0,
+        semaphores: 0,
     }
 }

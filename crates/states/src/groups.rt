@@ -43,6 +43,18 @@ fn put_owner(out: &mut Buffer, at: usize, tables: &[usize], m: usize) -> usize
     put::decimal(out, next, owner)
 }
 
+// ` k3=-1`: a semaphore's count.
+fn put_count(out: &mut Buffer, at: usize, values: &[i32], k: usize) -> usize
+    requires { ⌜ k < 64 ⌝ }
+{
+    if values.len() <= 32 + k {
+        return at;
+    }
+    let mut next = put_name(out, at, b'k', k);
+    next = put::byte(out, next, b'=');
+    put::signed(out, next, values[32 + k])
+}
+
 // `=(5,3,2)`: a thread's saved PC, cells and FP.
 fn put_registers(out: &mut Buffer, at: usize, pc: usize, cells: usize, fp: usize) -> usize {
     let mut next = put::bytes(out, at, b"=(");
@@ -78,7 +90,7 @@ fn put_result(out: &mut Buffer, at: usize, tables: &[usize], values: &[i32], t: 
     put::signed(out, next, values[t])
 }
 
-// A group's field of a number, or nothing. The places of those who wait begin at 4 for mutexes, 68 for conditions, 132 for ends.
+// A group's field of a number, or nothing. The places of those who wait begin at 4 for mutexes, 68 for conditions, 132 for semaphores, 164 for ends.
 fn put_field(
     out: &mut Buffer,
     at: usize,
@@ -92,8 +104,10 @@ fn put_field(
     match letter {
         b'm' => put_waiters(out, at, tables, letter, number, 4 + number),
         b'c' => put_waiters(out, at, tables, letter, number, 68 + number),
-        b'e' => put_waiters(out, at, tables, letter, number, 132 + number),
+        b'e' => put_waiters(out, at, tables, letter, number, 164 + number),
+        b'p' => put_waiters(out, at, tables, letter, number, 132 + number),
         b'o' => put_owner(out, at, tables, number),
+        b'k' => put_count(out, at, values, number),
         b's' => put_saved(out, at, tables, number),
         _ => put_result(out, at, tables, values, number),
     }
@@ -118,11 +132,27 @@ fn put_group(
     next
 }
 
-pub fn put_groups(out: &mut Buffer, at: usize, tables: &[usize], values: &[i32]) -> usize {
+// How many semaphores were made: a box has no more than 32.
+fn made_of(semaphores: usize) -> usize
+    ensures { λ n. ⌜ n ≤ 32 ⌝ }
+{
+    if semaphores < 32 { semaphores } else { 32 }
+}
+
+pub fn put_groups(
+    out: &mut Buffer,
+    at: usize,
+    tables: &[usize],
+    values: &[i32],
+    semaphores: usize,
+) -> usize {
+    let counts = made_of(semaphores);
     let mut next = put_group(out, at, tables, values, b'm', 64);
     next = put_group(out, next, tables, values, b'c', 64);
     next = put_group(out, next, tables, values, b'e', 32);
+    next = put_group(out, next, tables, values, b'p', 32);
     next = put_group(out, next, tables, values, b'o', 64);
+    next = put_group(out, next, tables, values, b'k', counts);
     next = put_group(out, next, tables, values, b's', 32);
     put_group(out, next, tables, values, b'v', 32)
 }

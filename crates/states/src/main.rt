@@ -48,7 +48,7 @@ fn trace(image: &[u8], store: &mut [i32], tables: &mut [usize], values: &mut [i3
 fn print_states(image: &[u8]) {
     let mut store = [0i32; 8192];
     let mut tables = [0usize; 224];
-    let mut values = [0i32; 32];
+    let mut values = [0i32; 64];
     trace(image, &mut store, &mut tables, &mut values);
 }
 

@@ -1,4 +1,4 @@
-// A state line: the registers, the store's hash, the queues and what the tables hold of each mutex and thread.
+// A state line: the registers, the store's hash, the queues and what is held of each mutex, semaphore and thread.
 use crate::groups::put_groups;
 use crate::hash::hash;
 use crate::put;
@@ -23,7 +23,8 @@ fn put_made(out: &mut Buffer, at: usize, r: Registers) -> usize {
     let mut next = put::field(out, at, r.free);
     next = put::field(out, next, r.threads);
     next = put::field(out, next, r.mutexes);
-    put::field(out, next, r.conditions)
+    next = put::field(out, next, r.conditions);
+    put::field(out, next, r.semaphores)
 }
 
 fn put_state(
@@ -38,7 +39,7 @@ fn put_state(
     at = put::hex(out, at, hash(store));
     at = put::bytes(out, at, b" r:");
     at = put_queue(out, at, tables, READY);
-    at = put_groups(out, at, tables, values);
+    at = put_groups(out, at, tables, values, r.semaphores);
     put::byte(out, at, 10)
 }
 

@@ -161,9 +161,12 @@ sent-left size l l′ t p g h e =
 
 -- ---- the search along the line
 
--- the search from entry k of the line on
+-- those at a place from entry k of the line on, and the first of them
+abbrev pub remaining : ℕ → List ℕ → ℕ → ℕ → List ℕ
+remaining size l place k = keep (isAt (tablesOf size l) place) (drop (6 * size + k) l)
+
 abbrev pub searched : ℕ → List ℕ → ℕ → ℕ → First
-searched size l place k = firstOf (keep (isAt (tablesOf size l) place) (drop (6 * size + k) l))
+searched size l place k = firstOf (remaining size l place k)
 
 module _ (size : ℕ) (l : List ℕ) (g : Good size l) where
   line-is : tablesOf size l .line ≡ drop (6 * size) l
@@ -178,26 +181,41 @@ module _ (size : ℕ) (l : List ℕ) (g : Good size l) where
       less-or-not (getD l i 0) size (λ h. h)
       (λ h. absurd (omega (arith, rw same at there, rw line-is at (g .line .no-other (getD l i 0) h))))
 
+  pub queue-start : (place : ℕ) → queue (tablesOf size l) place ≡ remaining size l place 0
+  unfolding queue
+  queue-start place = let all : 6 * size + 0 ≡ 6 * size = omega arith in rw (all, line-is)
+
   pub search-start : (place : ℕ) → first (tablesOf size l) place ≡ searched size l place 0
-  unfolding first queue
-  search-start place = let all : 6 * size + 0 ≡ 6 * size = omega arith in rw (all, line-is)
+  unfolding first
+  search-start place = ap firstOf (queue-start place)
 
   module _ (place k i : ℕ) (below : k < size) (e : i ≡ 6 * size + k) where
     -- whether entry k is at a place
     at-entry : isAt (tablesOf size l) place (getD l i 0) ≡ eqb (getD l (getD l i 0) 0) place
     at-entry = ap (λ (p : ℕ). eqb p place) (read-place size l (getD l i 0) (member k i below e))
 
-    pub search-found : getD l (getD l i 0) 0 ≡ place → searched size l place k ≡ Waiter (record { 0 = getD l i 0 })
-    search-found h =
-        rw (← e, drop-cons l i 0 (omega (arith, g .long)), keep-in (isAt (tablesOf size l) place) (getD l i 0) (drop (suc i) l) (at-entry ∙ eq-eqb _ _ h))
+    next : 6 * size + (k + 1) ≡ suc i
+    next = omega (arith, e)
 
-    pub search-on : getD l (getD l i 0) 0 ≢ place → searched size l place k ≡ searched size l place (k + 1)
-    search-on h =
-        let next : 6 * size + (k + 1) ≡ suc i = omega arith in
+    pub entry-in : getD l (getD l i 0) 0 ≡ place → remaining size l place k ≡ getD l i 0 ∷ remaining size l place (k + 1)
+    entry-in h =
+        rw (next, ← e, drop-cons l i 0 (omega (arith, g .long)), keep-in (isAt (tablesOf size l) place) (getD l i 0) (drop (suc i) l) (at-entry ∙ eq-eqb _ _ h))
+
+    pub entry-out : getD l (getD l i 0) 0 ≢ place → remaining size l place k ≡ remaining size l place (k + 1)
+    entry-out h =
         rw (next, ← e, drop-cons l i 0 (omega (arith, g .long)), keep-out (isAt (tablesOf size l) place) (getD l i 0) (drop (suc i) l) (at-entry ∙ ne-eqb _ _ h))
 
+    pub search-found : getD l (getD l i 0) 0 ≡ place → searched size l place k ≡ Waiter (record { 0 = getD l i 0 })
+    search-found h = ap firstOf (entry-in h)
+
+    pub search-on : getD l (getD l i 0) 0 ≢ place → searched size l place k ≡ searched size l place (k + 1)
+    search-on h = ap firstOf (entry-out h)
+
+  pub queue-end : (place k : ℕ) → size ≤ k → remaining size l place k ≡ []
+  queue-end place k h = rw (drop-of-length-le l {i = 6 * size + k} (omega (arith, g .long)), keep-nil (isAt (tablesOf size l) place))
+
   pub search-end : (place k : ℕ) → size ≤ k → searched size l place k ≡ Nobody
-  search-end place k h = rw (drop-of-length-le l {i = 6 * size + k} (omega (arith, g .long)), keep-nil (isAt (tablesOf size l) place))
+  search-end place k h = ap firstOf (queue-end place k h)
 
   -- who is found is a thread
   pub found-real : (place : ℕ) (t : Thread) → first (tablesOf size l) place ≡ Waiter t → t .0 < size

@@ -6,7 +6,7 @@ use native.Mathlib.Omega.{arith}
 use lib.ListN.{length}
 use Rattle.machine.proofs.Queues.{first-nobody, first-waiter, queue-left}
 use Rattle.machine.proofs.Slices.{slice-sizes}
-use Rattle.machine.specs.Tables.{Tables, allReady, first, queue, ready, sent, tablesOf, wakeAll}
+use Rattle.machine.specs.Tables.{Tables, allReady, first, queue, ready, sent, tablesOf, wakeAll, wakeFirst, wakeOne}
 use Rattle.machine.specs.declared.numbers.Thread.{Thread}
 use Rattle.machine.specs.declared.numbers.First.{First}
 use Rattle.machine.specs.declared.numbers.First.the-variants.{Waiter, Nobody}
@@ -64,3 +64,14 @@ module _ (size : ℕ) (l l′ : List ℕ) (place : ℕ) (high : 3 < place) (g : 
   all-woken answer d e =
       let empty = none (tablesOf size l) place (sym (d .found) ∙ e) in
       record { is = d .left .is ∙ rw (e, empty); good = d .left .good }
+
+-- ---- the first waiter alone
+
+taken-woken : (a : First) (tables : Tables) → taken a ready tables ≡ wakeOne a tables
+taken-woken (Waiter t) tables = refl
+taken-woken Nobody tables = refl
+
+-- the first waiter was sent to the ready tail
+pub woken : (size : ℕ) (l l′ : List ℕ) (from : ℕ) (answer : First) → Dequeued size l from ready answer l′ → tablesOf size l′ ≡ wakeFirst (tablesOf size l) from
+woken size l l′ from answer d =
+    d .left .is ∙ taken-woken answer (tablesOf size l) ∙ ap (λ (a : First). wakeOne a (tablesOf size l)) (d .found)

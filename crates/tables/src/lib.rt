@@ -6,7 +6,7 @@ ghost use lib.Dec.{eqb};
 ghost use lib.ListN.{drop, getD, length};
 ghost use Rattle.machine.specs.Lists.{count};
 ghost use Rattle.machine.specs.Registers.{nobody};
-ghost use Rattle.machine.specs.Tables.{anyLive, ended, first, lives, owned, ownerOf, ownsAny, placeOf, saved, sent, tablesOf, wakeAll};
+ghost use Rattle.machine.specs.Tables.{anyLive, ended, first, lives, owned, ownerOf, ownsAny, placeOf, queue, saved, sent, tablesOf, wakeAll};
 ghost use Rattle.tables.specs.Good.{Dequeued, Good, Left, endMoved};
 use machine::First;
 use machine::Mutex;
@@ -155,6 +155,24 @@ fn find(tables: &[usize], size: usize, place: usize) -> First
         k += 1;
     }
     First::Nobody
+}
+
+// How many wait at a place.
+pub fn waiting(tables: &[usize], size: usize, place: usize) -> usize
+    requires { ⌜ Good size (now tables) ⌝ }
+    ensures { λ n. ⌜ n ≡ length (queue (tablesOf size (now (tables .entry))) place) ⌝ }
+{
+    let mut n = 0;
+    let mut j = 0;
+    while j < size {
+        let i = in_line(size, j);
+        let t = tables[i];
+        if tables[t] == place {
+            n += 1;
+        }
+        j += 1;
+    }
+    n
 }
 
 // Takes the first waiter out of a queue and sends it to another place.

@@ -51,8 +51,8 @@ pub enum Entry {
     Wrong,
 }
 
-// The number of the next thread, if there is room for one.
-fn next_number(made: usize, size: usize) -> Index
+// The number of the next thread, or of another thing of which a box has as many, if there is room for one.
+pub fn next_number(made: usize, size: usize) -> Index
     ensures { λ r. ⌜ r ≡ indexOf (pos made) size ⌝ }
 {
     if made < size {

@@ -23,7 +23,7 @@ good size l values small sizes e =
     let p = and-true (allBelow size line) (every size once) e in
     record {
       small = small;
-      long = eqb-true (length l) (7 * size) (and-first (eqb (length l) (7 * size)) (eqb (length values) size) sizes);
+      long = eqb-true (length l) (7 * size) (and-first (eqb (length l) (7 * size)) (eqb (length values) (2 * size)) sizes);
       line =
           record {
             once = λ t h. eqb-true (count t line) 1 (every-true size once (p .1) t h);
@@ -31,14 +31,21 @@ good size l values small sizes e =
           };
     }
 
+-- the values have their size
+pub valued : (size : ℕ) (l : List ℕ) (values : List ℤ) → tablesFit size l values ≡ true → length values ≡ 2 * size
+valued size l values sizes = eqb-true (length values) (2 * size) (and-second (eqb (length l) (7 * size)) (eqb (length values) (2 * size)) sizes)
+
 pub made : (size : ℕ) (r : Registers) → registersFit size r ≡ true → Made size r
 made size r e =
     let m = leb (r .mutexes) (2 * size) in
     let k = leb (r .conditions) (2 * size) in
-    let p = and-true (inRange 1 size (r .threads)) (m && k) (and-first (countsFit size r) _ e) in
-    let q = and-true m k (p .1) in
+    let j = leb (r .semaphores) size in
+    let p = and-true (inRange 1 size (r .threads)) (m && (k && j)) (and-first (countsFit size r) _ e) in
+    let q = and-true m (k && j) (p .1) in
+    let v = and-true k j (q .1) in
     record {
       threads = leb-true (r .threads) size (and-second (leb 1 (r .threads)) (leb (r .threads) size) (p .0));
       mutexes = leb-true (r .mutexes) (2 * size) (q .0);
-      conditions = leb-true (r .conditions) (2 * size) (q .1);
+      conditions = leb-true (r .conditions) (2 * size) (v .0);
+      semaphores = leb-true (r .semaphores) size (v .1);
     }

@@ -13,7 +13,7 @@ fn sizes_fit(tables: &[usize], values: &[i32], size: usize) -> bool
     requires { ⌜ size ≤ 32 ⌝ }
     ensures { λ b. ⌜ b ≡ tablesFit size (now (tables .entry)) (now (values .entry)) ⌝ }
 {
-    tables.len() == 7 * size && values.len() == size
+    tables.len() == 7 * size && values.len() == 2 * size
 }
 
 // Each part is asked only where those before it passed: a number that fails its range is never an index.
@@ -32,5 +32,6 @@ pub fn well_formed(r: Registers, tables: &[usize], values: &[i32], size: usize) 
     }
     places::threads_fit(r, tables, size)
         && (owners::owners_fit(r, tables, size)
-            && (ranges::fault_fits(r) && state::state_fits(r, tables, size)))
+            && (counts::levels_fit(r, tables, values, size)
+                && (ranges::fault_fits(r) && state::state_fits(r, tables, size))))
 }

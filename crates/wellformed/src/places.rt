@@ -36,7 +36,10 @@ fn wait_fits(r: Registers, tables: &[usize], size: usize, place: usize) -> bool
     if place < 4 + 4 * size {
         return place - (4 + 2 * size) < r.conditions;
     }
-    let t = place - (4 + 4 * size);
+    if place < 4 + 5 * size {
+        return place - (4 + 4 * size) < r.semaphores;
+    }
+    let t = place - (4 + 5 * size);
     t < r.threads && tables::place(tables, size, Thread(t)) != 1
 }
 

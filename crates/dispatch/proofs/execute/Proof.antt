@@ -57,6 +57,15 @@ signal-requires c κs = search needs
 broadcast-requires : tie.Need-broadcast-requires
 broadcast-requires c κs = search needs
 
+newsema-requires : tie.Need-newsema-requires
+newsema-requires c κs = search needs
+
+up-requires : tie.Need-up-requires
+up-requires c κs = let w = c .before .before .before .before .before .pre .0 in (w .able, (w .good, (w .valued, w .made)))
+
+down-requires : tie.Need-down-requires
+down-requires c κs = let w = c .before .before .before .before .before .pre .0 in (w .able, (w .good, (w .valued, (w .made, w .low))))
+
 halt-requires-2 : tie.Need-halt-requires-2
 halt-requires-2 c κs = search needs
 
@@ -208,8 +217,44 @@ returns-16 : tie.Need-returns-16
 unfolding instructionOf
 returns-16 c = rw (c .before .before .before .before .before .match .keys16) (c .before .before .broadcast .ensures _ _)
 
+same-length-29 : tie.Need-same-length-29
+same-length-29 c = search needs
+
+same-length-30 : tie.Need-same-length-30
+same-length-30 c = search needs
+
 returns-17 : tie.Need-returns-17
-returns-17 c = absurd (none (c .before .before .before .args .opcode) (c .before .before .before .pre .1 .1 .0) (c .before .before .before .pre .1 .1 .1) (c .before .match .rest))
+unfolding instructionOf
+returns-17 c = rw (c .before .before .before .before .before .match .keys17) (c .before .before .newsema .ensures _ _)
+
+same-length-31 : tie.Need-same-length-31
+same-length-31 c = search needs
+
+same-length-32 : tie.Need-same-length-32
+same-length-32 c = search needs
+
+same-length-33 : tie.Need-same-length-33
+same-length-33 c = search needs
+
+returns-18 : tie.Need-returns-18
+unfolding instructionOf
+returns-18 c = rw (c .before .before .before .before .before .before .before .match .keys18) (c .before .before .before .up .ensures _)
+
+same-length-34 : tie.Need-same-length-34
+same-length-34 c = search needs
+
+same-length-35 : tie.Need-same-length-35
+same-length-35 c = search needs
+
+same-length-36 : tie.Need-same-length-36
+same-length-36 c = search needs
+
+returns-19 : tie.Need-returns-19
+unfolding instructionOf
+returns-19 c = rw (c .before .before .before .before .before .before .before .match .keys19) (c .before .before .before .down .ensures _)
+
+returns-20 : tie.Need-returns-20
+returns-20 c = absurd (none (c .before .before .before .args .opcode) (c .before .before .before .pre .1 .1 .0) (c .before .before .before .pre .1 .1 .1) (c .before .match .rest))
 
 pub execute-spec : {M : Type 1} → statement M
 execute-spec =
@@ -232,6 +277,9 @@ execute-spec =
     wait-requires
     signal-requires
     broadcast-requires
+    newsema-requires
+    up-requires
+    down-requires
     halt-requires-2
     returns
     same-length
@@ -277,4 +325,15 @@ execute-spec =
     same-length-27
     same-length-28
     returns-16
-    returns-17)
+    same-length-29
+    same-length-30
+    returns-17
+    same-length-31
+    same-length-32
+    same-length-33
+    returns-18
+    same-length-34
+    same-length-35
+    same-length-36
+    returns-19
+    returns-20)

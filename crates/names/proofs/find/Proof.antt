@@ -13,7 +13,7 @@ abbrev Inv-loop : tie.InvT-loop
 Inv-loop word entries k₀ k = opcodeNamed word ≡ namedFrom k (drop k names) word
 
 abbrev μ-loop : tie.MeasureT-loop
-μ-loop word entries k₀ k = 38 - k
+μ-loop word entries k₀ k = 41 - k
 
 loop-holds : tie.Need-loop-holds Inv-loop μ-loop
 loop-holds c = refl

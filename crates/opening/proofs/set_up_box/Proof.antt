@@ -69,6 +69,9 @@ returns-2 : tie.Need-returns-2
 returns-2 c =
     misfit-tables _ _ _ _ _ _ _ (sym (c .before .before .before .before .before .before .before .read .ensures) ∙ c .before .before .before .before .before .cells .given .1) (c .before .before .before .if1 .left) (c .before .before .if2 .taken) (c .refused3 .ensures ∙ ap (refusal 7 0) (c .before .no-registers3 .ensures))
 
+mul-if3 : tie.Need-mul-if3
+mul-if3 c = search needs
+
 -- src/opening.rt:26:38
 no-registers-requires-4 : tie.Need-no-registers-requires-4
 no-registers-requires-4 c κs = search needs
@@ -130,6 +133,7 @@ set-up-box-spec =
     no-registers-requires-3
     refused-requires-3
     returns-2
+    mul-if3
     no-registers-requires-4
     refused-requires-4
     returns-3

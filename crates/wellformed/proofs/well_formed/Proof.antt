@@ -1,11 +1,13 @@
 -- `wellformed::well_formed` meets its contract. Assumes nothing.
-use mathlib.Core.Path.{sym, _∙_}
+use Prim.Native.Nat.{_*_}
+use mathlib.Core.Path.{_≡_, sym, _∙_}
 use borrow.Author.Tests.{not-true, not-false}
 use denote.Ref.{now}
+use lib.ListN.{length}
 use Rattle.machine.specs.WellFormed.{formed, wellFormed}
 use Rattle.cells.specs.Contract.{Made}
 use Rattle.tables.specs.Good.{Good}
-use Rattle.wellformed.proofs.Passed.{good, made}
+use Rattle.wellformed.proofs.Passed.{good, made, valued}
 use borrow.Author.Needs.{needs}
 use Rattle.wellformed.proofs.well_formed.Statement.{statement}
 use Rattle.wellformed.proofs.well_formed.Tie as tie
@@ -19,6 +21,10 @@ tidy c =
 -- and after the registers, the counts are in range
 counted : (c : tie.Else3) → Made (c .before .before .before .before .before .before .before .args .size) (c .before .before .before .before .before .before .before .args .r)
 counted c = made _ _ (sym (c .before .before .before .registers-fit .ensures) ∙ not-false (c .before .before .before .registers-fit .result) (c .before .before .if2 .left))
+
+-- the values have their size
+sized : (c : tie.Else3) → length (now (c .before .before .before .before .before .before .before .args .values)) ≡ 2 * c .before .before .before .before .before .before .before .args .size
+sized c = valued (c .before .before .before .before .before .before .before .args .size) (now (c .before .before .before .before .before .before .before .args .tables)) (now (c .before .before .before .before .before .before .before .args .values)) (sym (c .before .before .before .before .before .sizes-fit .ensures) ∙ not-false (c .before .before .before .before .before .sizes-fit .result) (c .before .before .before .before .if1 .left))
 
 sizes-fit-requires : tie.Need-sizes-fit-requires
 sizes-fit-requires c κs = search needs
@@ -39,8 +45,7 @@ line-fits-requires c κs = search needs
 
 returns-3 : tie.Need-returns-3
 unfolding wellFormed formed
-returns-3 c =
-    rw (← (c .before .before .before .before .before .sizes-fit .ensures), not-false (c .before .before .before .before .before .sizes-fit .result) (c .before .before .before .before .if1 .left), ← (c .before .before .before .registers-fit .ensures), not-false (c .before .before .before .registers-fit .result) (c .before .before .if2 .left), ← (c .before .line-fits .ensures), not-true (c .before .line-fits .result) (c .if3 .taken))
+returns-3 c = rw (← (c .before .before .before .before .before .sizes-fit .ensures), not-false (c .before .before .before .before .before .sizes-fit .result) (c .before .before .before .before .if1 .left), ← (c .before .before .before .registers-fit .ensures), not-false (c .before .before .before .registers-fit .result) (c .before .before .if2 .left), ← (c .before .line-fits .ensures), not-true (c .before .line-fits .result) (c .if3 .taken))
 
 threads-fit-requires : tie.Need-threads-fit-requires
 threads-fit-requires c κs = (tidy c, counted c)
@@ -48,31 +53,39 @@ threads-fit-requires c κs = (tidy c, counted c)
 owners-fit-requires : tie.Need-owners-fit-requires
 owners-fit-requires c κs = (tidy (c .before .before), counted (c .before .before))
 
+levels-fit-requires : tie.Need-levels-fit-requires
+levels-fit-requires c κs = (tidy (c .before .before .before .before), (counted (c .before .before .before .before), sized (c .before .before .before .before)))
+
 fault-fits-requires : tie.Need-fault-fits-requires
 fault-fits-requires c κs = search needs
 
 state-fits-requires : tie.Need-state-fits-requires
-state-fits-requires c κs = tidy (c .before .before .before .before .before .before)
+state-fits-requires c κs = tidy (c .before .before .before .before .before .before .before .before)
 
 returns-4 : tie.Need-returns-4
 unfolding wellFormed formed
 returns-4 c =
-    rw (← (c .before .before .before .before .before .before .before .before .before .before .before .before .sizes-fit .ensures), not-false (c .before .before .before .before .before .before .before .before .before .before .before .before .sizes-fit .result) (c .before .before .before .before .before .before .before .before .before .before .before .if1 .left), ← (c .before .before .before .before .before .before .before .before .before .before .registers-fit .ensures), not-false (c .before .before .before .before .before .before .before .before .before .before .registers-fit .result) (c .before .before .before .before .before .before .before .before .before .if2 .left), ← (c .before .before .before .before .before .before .before .before .line-fits .ensures), not-false (c .before .before .before .before .before .before .before .before .line-fits .result) (c .before .before .before .before .before .before .before .if3 .left), ← (c .before .before .before .before .before .before .threads-fit .ensures), c .before .before .before .before .before .if4 .taken, ← (c .before .before .before .before .owners-fit .ensures), c .before .before .before .if5 .taken, ← (c .before .before .fault-fits .ensures), c .before .if6 .taken)
+    rw (← (c .before .before .before .before .before .before .before .before .before .before .before .before .before .before .sizes-fit .ensures), not-false (c .before .before .before .before .before .before .before .before .before .before .before .before .before .before .sizes-fit .result) (c .before .before .before .before .before .before .before .before .before .before .before .before .before .if1 .left), ← (c .before .before .before .before .before .before .before .before .before .before .before .before .registers-fit .ensures), not-false (c .before .before .before .before .before .before .before .before .before .before .before .before .registers-fit .result) (c .before .before .before .before .before .before .before .before .before .before .before .if2 .left), ← (c .before .before .before .before .before .before .before .before .before .before .line-fits .ensures), not-false (c .before .before .before .before .before .before .before .before .before .before .line-fits .result) (c .before .before .before .before .before .before .before .before .before .if3 .left), ← (c .before .before .before .before .before .before .before .before .threads-fit .ensures), c .before .before .before .before .before .before .before .if4 .taken, ← (c .before .before .before .before .before .before .owners-fit .ensures), c .before .before .before .before .before .if5 .taken, ← (c .before .before .before .before .levels-fit .ensures), c .before .before .before .if6 .taken, ← (c .before .before .fault-fits .ensures), c .before .if7 .taken)
     (c .state-fits .ensures)
 
 returns-5 : tie.Need-returns-5
 unfolding wellFormed formed
 returns-5 c =
-    rw (← (c .before .before .before .before .before .before .before .before .before .before .before .sizes-fit .ensures), not-false (c .before .before .before .before .before .before .before .before .before .before .before .sizes-fit .result) (c .before .before .before .before .before .before .before .before .before .before .if1 .left), ← (c .before .before .before .before .before .before .before .before .before .registers-fit .ensures), not-false (c .before .before .before .before .before .before .before .before .before .registers-fit .result) (c .before .before .before .before .before .before .before .before .if2 .left), ← (c .before .before .before .before .before .before .before .line-fits .ensures), not-false (c .before .before .before .before .before .before .before .line-fits .result) (c .before .before .before .before .before .before .if3 .left), ← (c .before .before .before .before .before .threads-fit .ensures), c .before .before .before .before .if4 .taken, ← (c .before .before .before .owners-fit .ensures), c .before .before .if5 .taken, ← (c .before .fault-fits .ensures), c .if6 .left)
+    rw (← (c .before .before .before .before .before .before .before .before .before .before .before .before .before .sizes-fit .ensures), not-false (c .before .before .before .before .before .before .before .before .before .before .before .before .before .sizes-fit .result) (c .before .before .before .before .before .before .before .before .before .before .before .before .if1 .left), ← (c .before .before .before .before .before .before .before .before .before .before .before .registers-fit .ensures), not-false (c .before .before .before .before .before .before .before .before .before .before .before .registers-fit .result) (c .before .before .before .before .before .before .before .before .before .before .if2 .left), ← (c .before .before .before .before .before .before .before .before .before .line-fits .ensures), not-false (c .before .before .before .before .before .before .before .before .before .line-fits .result) (c .before .before .before .before .before .before .before .before .if3 .left), ← (c .before .before .before .before .before .before .before .threads-fit .ensures), c .before .before .before .before .before .before .if4 .taken, ← (c .before .before .before .before .before .owners-fit .ensures), c .before .before .before .before .if5 .taken, ← (c .before .before .before .levels-fit .ensures), c .before .before .if6 .taken, ← (c .before .fault-fits .ensures), c .if7 .left)
 
 returns-6 : tie.Need-returns-6
 unfolding wellFormed formed
 returns-6 c =
-    rw (← (c .before .before .before .before .before .before .before .before .before .sizes-fit .ensures), not-false (c .before .before .before .before .before .before .before .before .before .sizes-fit .result) (c .before .before .before .before .before .before .before .before .if1 .left), ← (c .before .before .before .before .before .before .before .registers-fit .ensures), not-false (c .before .before .before .before .before .before .before .registers-fit .result) (c .before .before .before .before .before .before .if2 .left), ← (c .before .before .before .before .before .line-fits .ensures), not-false (c .before .before .before .before .before .line-fits .result) (c .before .before .before .before .if3 .left), ← (c .before .before .before .threads-fit .ensures), c .before .before .if4 .taken, ← (c .before .owners-fit .ensures), c .if5 .left)
+    rw (← (c .before .before .before .before .before .before .before .before .before .before .before .sizes-fit .ensures), not-false (c .before .before .before .before .before .before .before .before .before .before .before .sizes-fit .result) (c .before .before .before .before .before .before .before .before .before .before .if1 .left), ← (c .before .before .before .before .before .before .before .before .before .registers-fit .ensures), not-false (c .before .before .before .before .before .before .before .before .before .registers-fit .result) (c .before .before .before .before .before .before .before .before .if2 .left), ← (c .before .before .before .before .before .before .before .line-fits .ensures), not-false (c .before .before .before .before .before .before .before .line-fits .result) (c .before .before .before .before .before .before .if3 .left), ← (c .before .before .before .before .before .threads-fit .ensures), c .before .before .before .before .if4 .taken, ← (c .before .before .before .owners-fit .ensures), c .before .before .if5 .taken, ← (c .before .levels-fit .ensures), c .if6 .left)
 
 returns-7 : tie.Need-returns-7
 unfolding wellFormed formed
 returns-7 c =
+    rw (← (c .before .before .before .before .before .before .before .before .before .sizes-fit .ensures), not-false (c .before .before .before .before .before .before .before .before .before .sizes-fit .result) (c .before .before .before .before .before .before .before .before .if1 .left), ← (c .before .before .before .before .before .before .before .registers-fit .ensures), not-false (c .before .before .before .before .before .before .before .registers-fit .result) (c .before .before .before .before .before .before .if2 .left), ← (c .before .before .before .before .before .line-fits .ensures), not-false (c .before .before .before .before .before .line-fits .result) (c .before .before .before .before .if3 .left), ← (c .before .before .before .threads-fit .ensures), c .before .before .if4 .taken, ← (c .before .owners-fit .ensures), c .if5 .left)
+
+returns-8 : tie.Need-returns-8
+unfolding wellFormed formed
+returns-8 c =
     rw (← (c .before .before .before .before .before .before .before .sizes-fit .ensures), not-false (c .before .before .before .before .before .before .before .sizes-fit .result) (c .before .before .before .before .before .before .if1 .left), ← (c .before .before .before .before .before .registers-fit .ensures), not-false (c .before .before .before .before .before .registers-fit .result) (c .before .before .before .before .if2 .left), ← (c .before .before .before .line-fits .ensures), not-false (c .before .before .before .line-fits .result) (c .before .before .if3 .left), ← (c .before .threads-fit .ensures), c .if4 .left)
 
 pub well-formed-spec : {M : Type 1} → statement M
@@ -87,9 +100,11 @@ well-formed-spec =
     returns-3
     threads-fit-requires
     owners-fit-requires
+    levels-fit-requires
     fault-fits-requires
     state-fits-requires
     returns-4
     returns-5
     returns-6
-    returns-7)
+    returns-7
+    returns-8)

@@ -1,6 +1,6 @@
 -- `conditions::waking::wake_first` meets its contract. Assumes nothing.
 use borrow.Author.Needs.{needs}
-use Rattle.conditions.proofs.Laws.{woken}
+use Rattle.tables.proofs.Waking.{woken}
 use Rattle.conditions.proofs.waking.wake_first.Statement.{statement}
 use Rattle.conditions.proofs.waking.wake_first.Tie as tie
 

@@ -10,18 +10,21 @@ in-range-requires c κs = search needs
 mul-if2 : tie.Need-mul-if2
 mul-if2 c = search needs
 
-mul-result : tie.Need-mul-result
-mul-result c = search needs
+mul-if3 : tie.Need-mul-if3
+mul-if3 c = search needs
 
 returns : tie.Need-returns
-returns c = rw (← (c .before .before .before .before .in-range .ensures), c .before .before .before .if1 .taken, le-leb _ _ (c .before .if2 .taken))
+returns c = rw (← (c .before .before .before .before .before .before .in-range .ensures), c .before .before .before .before .before .if1 .taken, le-leb _ _ (c .before .before .before .if2 .taken), le-leb _ _ (c .before .if3 .taken))
 
 returns-2 : tie.Need-returns-2
-returns-2 c = rw (← (c .before .before .before .in-range .ensures), c .before .before .if1 .taken, lt-leb _ _ (c .if2 .left))
+returns-2 c = rw (← (c .before .before .before .before .before .in-range .ensures), c .before .before .before .before .if1 .taken, le-leb _ _ (c .before .before .if2 .taken), lt-leb _ _ (c .if3 .left))
 
 returns-3 : tie.Need-returns-3
-returns-3 c = rw (← (c .before .in-range .ensures), c .if1 .left)
+returns-3 c = rw (← (c .before .before .before .in-range .ensures), c .before .before .if1 .taken, lt-leb _ _ (c .if2 .left))
+
+returns-4 : tie.Need-returns-4
+returns-4 c = rw (← (c .before .in-range .ensures), c .if1 .left)
 
 pub counts-fit-spec : {M : Type 1} → statement M
 counts-fit-spec =
-    tie.close (tie.spec in-range-requires mul-if2 mul-result returns returns-2 returns-3)
+    tie.close (tie.spec in-range-requires mul-if2 mul-if3 returns returns-2 returns-3 returns-4)

@@ -40,6 +40,24 @@ sub-result c = search needs
 returns-3 : tie.Need-returns-3
 returns-3 c = rw (le-ltb _ _ (c .before .before .if1 .left), lt-ltb _ _ (c .before .if3 .taken))
 
+mul-if4 : tie.Need-mul-if4
+mul-if4 c = search needs
+
+add-if4 : tie.Need-add-if4
+add-if4 c = search needs
+
+mul-result-2 : tie.Need-mul-result-2
+mul-result-2 c = search needs
+
+add-result-2 : tie.Need-add-result-2
+add-result-2 c = search needs
+
+sub-result-2 : tie.Need-sub-result-2
+sub-result-2 c = search needs
+
+returns-4 : tie.Need-returns-4
+returns-4 c = rw (le-ltb _ _ (c .before .before .before .if1 .left), le-ltb _ _ (c .before .before .if3 .left), lt-ltb _ _ (c .before .if4 .taken))
+
 mul-t : tie.Need-mul-t
 mul-t c = search needs
 
@@ -52,11 +70,11 @@ sub-t c = search needs
 place-requires : tie.Need-place-requires
 place-requires c κs = search needs
 
-returns-4 : tie.Need-returns-4
-returns-4 c = rw (le-ltb _ _ (c .before .before .before .before .if1 .left), le-ltb _ _ (c .before .before .before .if3 .left), lt-ltb _ _ (c .before .if4 .taken), ← (c .place .ensures))
-
 returns-5 : tie.Need-returns-5
-returns-5 c = rw (le-ltb _ _ (c .before .before .before .if1 .left), le-ltb _ _ (c .before .before .if3 .left), le-ltb _ _ (c .if4 .left))
+returns-5 c = rw (le-ltb _ _ (c .before .before .before .before .before .if1 .left), le-ltb _ _ (c .before .before .before .before .if3 .left), le-ltb _ _ (c .before .before .before .if4 .left), lt-ltb _ _ (c .before .if5 .taken), ← (c .place .ensures))
+
+returns-6 : tie.Need-returns-6
+returns-6 c = rw (le-ltb _ _ (c .before .before .before .before .if1 .left), le-ltb _ _ (c .before .before .before .if3 .left), le-ltb _ _ (c .before .before .if4 .left), le-ltb _ _ (c .if5 .left))
 
 pub wait-fits-spec : {M : Type 1} → statement M
 wait-fits-spec =
@@ -74,9 +92,15 @@ wait-fits-spec =
     add-result
     sub-result
     returns-3
+    mul-if4
+    add-if4
+    mul-result-2
+    add-result-2
+    sub-result-2
+    returns-4
     mul-t
     add-t
     sub-t
     place-requires
-    returns-4
-    returns-5)
+    returns-5
+    returns-6)

@@ -1,0 +1,54 @@
+-- `counts::levels::levels_fit` meets its contract. Assumes nothing.
+use borrow.Author.Tests.{not-true, not-false}
+use native.Mathlib.Omega.{arith}
+use borrow.Author.Needs.{needs}
+use Prim.Native.Nat.{_-_, _≤_}
+use mathlib.Core.Path.{_≡_, sym, _∙_}
+use mathlib.Core.Bool.{true}
+use Rattle.ranges.proofs.Loops.{every-all, every-more, every-none, every-stop}
+use Rattle.machine.specs.Lists.{every}
+use Rattle.machine.specs.Tables.{tablesOf}
+use Rattle.machine.specs.WellFormed.{levelFits}
+use Rattle.counts.proofs.levels.levels_fit.Statement.{statement}
+use Rattle.counts.proofs.levels.levels_fit.Tie as tie
+
+abbrev Inv-loop : tie.InvT-loop
+Inv-loop tables values size made k₀ k = (k ≤ made) × (every k (levelFits size (tablesOf size tables) values) ≡ true)
+
+abbrev μ-loop : tie.MeasureT-loop
+μ-loop tables values size made k₀ k = made - k
+
+loop-holds : tie.Need-loop-holds Inv-loop μ-loop
+loop-holds c = (omega arith, every-none _)
+
+level-fits-requires : tie.Need-level-fits-requires Inv-loop μ-loop
+level-fits-requires c κs = search needs
+
+returns : tie.Need-returns Inv-loop μ-loop
+returns c = sym (every-stop _ _ _ (c .before .before .loop-test .taken) (sym (c .before .level-fits .ensures) ∙ not-true _ (c .if1 .taken)))
+
+add-k : tie.Need-add-k Inv-loop μ-loop
+add-k c = search needs
+
+loop-less : tie.Need-loop-less Inv-loop μ-loop
+loop-less c = search needs
+
+loop-again : tie.Need-loop-again Inv-loop μ-loop
+loop-again c = (omega arith, every-more _ _ (c .before .before .before .loop .inv .1) (sym (c .before .level-fits .ensures) ∙ not-false _ (c .if1 .left)))
+
+returns-2 : tie.Need-returns-2 Inv-loop μ-loop
+returns-2 c = sym (every-all _ _ _ (c .before .loop .inv .0) (c .loop-test .left) (c .before .loop .inv .1))
+
+pub levels-fit-spec : {M : Type 1} → statement M
+levels-fit-spec =
+    tie.close
+    (tie.spec
+    Inv-loop
+    μ-loop
+    loop-holds
+    level-fits-requires
+    returns
+    add-k
+    loop-less
+    loop-again
+    returns-2)
