@@ -7,6 +7,7 @@ mod numbers;
 mod program;
 pub(crate) mod random;
 mod scenes;
+mod semaphores;
 mod soup;
 
 use crate::machine::Op;
@@ -37,14 +38,14 @@ pub enum Kind {
 impl Kind {
     /// All kinds, with how many cards of a hundred are of it.
     pub const SHARES: [(usize, Kind); 8] = [
-        (22, Kind::Program),
-        (20, Kind::Scene),
+        (20, Kind::Program),
+        (22, Kind::Scene),
         (8, Kind::Changed),
-        (12, Kind::Limit),
+        (14, Kind::Limit),
         (12, Kind::Edge),
-        (6, Kind::Number),
-        (10, Kind::Soup),
-        (10, Kind::Damaged),
+        (7, Kind::Number),
+        (8, Kind::Soup),
+        (9, Kind::Damaged),
     ];
 }
 
@@ -60,12 +61,12 @@ pub fn card(seed: u64, index: u64) -> (Kind, Vec<u8>) {
 fn image(r: &mut Random, kind: Kind) -> Vec<u8> {
     match kind {
         Kind::Program => program::program(r).image(),
-        Kind::Scene => r.weighted(&scenes::SCENES)(r).image(),
+        Kind::Scene => scene(r).image(),
         Kind::Changed => {
             let code = if r.percent(50) {
                 program::program(r)
             } else {
-                r.weighted(&scenes::SCENES)(r)
+                scene(r)
             };
             change(r, code).image()
         }
@@ -86,6 +87,16 @@ fn image(r: &mut Random, kind: Kind) -> Vec<u8> {
             damage::damage(r, good)
         }
     }
+}
+
+/// A play; about a third of them are those with semaphores.
+fn scene(r: &mut Random) -> Code {
+    let play = if r.percent(35) {
+        r.weighted(&semaphores::SCENES)
+    } else {
+        r.weighted(&scenes::SCENES)
+    };
+    play(r)
 }
 
 /// Changes one to three instructions, so that something goes wrong somewhere in the middle.

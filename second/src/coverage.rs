@@ -7,8 +7,8 @@ use std::fmt::Write as _;
 
 /// A card counts with its first steps only, so that the few endless ones don't drown the rest.
 const STEPS: u64 = 10_000;
-/// The faults are numbered 20 to 33.
-const FAULTS: std::ops::RangeInclusive<usize> = 20..=33;
+/// The faults are numbered 20 to 34.
+const FAULTS: std::ops::RangeInclusive<usize> = 20..=34;
 /// The columns: structured cards, cards at limits and edges, and the rest.
 const COLUMNS: [&str; 3] = ["structured", "limits", "soup+damaged"];
 

@@ -46,11 +46,14 @@ pub enum Op {
     Wait,
     Signal,
     Broadcast,
+    Newsema,
+    Up,
+    Down,
 }
 
 impl Op {
     /// All of them; the place in this list is the opcode byte.
-    pub const ALL: [Op; 38] = [
+    pub const ALL: [Op; 41] = [
         Op::Halt,
         Op::Loadc,
         Op::Load,
@@ -89,9 +92,12 @@ impl Op {
         Op::Wait,
         Op::Signal,
         Op::Broadcast,
+        Op::Newsema,
+        Op::Up,
+        Op::Down,
     ];
 
-    /// The paper's name.
+    /// The papers' name.
     pub fn name(self) -> String {
         format!("{:?}", self).to_lowercase()
     }

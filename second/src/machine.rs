@@ -17,6 +17,8 @@ pub const THREADS: usize = 32;
 pub const MUTEXES: usize = 64;
 /// At most so many conditions are ever made.
 pub const CONDITIONS: usize = 64;
+/// At most so many semaphores are ever made.
+pub const SEMAPHORES: usize = 32;
 
 /// The fault of a number that names no mutex.
 const NO_MUTEX: u8 = 27;
@@ -24,6 +26,8 @@ const NO_MUTEX: u8 = 27;
 const NO_CONDITION: u8 = 32;
 /// The fault of a number that names no thread.
 const NO_THREAD: u8 = 33;
+/// The fault of a number that names no semaphore.
+const NO_SEMAPHORE: u8 = 34;
 
 /// What a machine is; the numbers are those of the state line.
 #[derive(Clone, Copy, PartialEq, Eq, Debug)]
@@ -132,9 +136,16 @@ pub struct Condition {
     remembered: usize,
 }
 
-/// The paper's "Errors that look right", 1 to 5, and those that requests Two and Three invite, 6 to
-/// 9 and 10 to 13. A machine makes none of them unless it is told to; only the showing that the
-/// comparison can fail tells it to.
+/// A semaphore: its count, and who waits for it.
+#[derive(Clone, Debug, Default)]
+pub struct Semaphore {
+    pub count: i32,
+    pub waiters: VecDeque<usize>,
+}
+
+/// The paper's "Errors that look right", 1 to 5, and those that requests Two, Three and Four invite,
+/// 6 to 9, 10 to 13 and 14 to 21. A machine makes none of them unless it is told to; only the
+/// showing that the comparison can fail tells it to.
 #[derive(Clone, Copy, PartialEq, Eq, Debug)]
 pub enum Mistake {
     /// 1. A condition's waiter is woken straight past its lock.
@@ -163,10 +174,26 @@ pub enum Mistake {
     ThreadAmongMutexes,
     /// 13. Fault 27 for all three kinds, as before request Three.
     KindsNotTold,
+    /// 14. Down waits already when the count is now 0.
+    DownWaitsAtZero,
+    /// 15. Up wakes only if the count is then negative, so the last waiter sleeps on.
+    LastLeftAsleep,
+    /// 16. Up wakes the last of the queue.
+    LastWokenFirst,
+    /// 17. Newsema gives -1 before it tests the starting count.
+    NewsemaRoomFirst,
+    /// 18. The count is the running thread's, not the semaphore's.
+    CountOfThread,
+    /// 19. Up sends the waiter to the front of the ready queue.
+    WokenToFront,
+    /// 20. Up at the largest count is carried out and leaves it there.
+    UpSaturates,
+    /// 21. A bad semaphore number gives fault 27.
+    SemaphoreNotTold,
 }
 
 impl Mistake {
-    pub const ALL: [Mistake; 13] = [
+    pub const ALL: [Mistake; 21] = [
         Mistake::WokenPastLock,
         Mistake::UnlockFrees,
         Mistake::SignalRemembered,
@@ -180,6 +207,14 @@ impl Mistake {
         Mistake::WaitMutexFirst,
         Mistake::ThreadAmongMutexes,
         Mistake::KindsNotTold,
+        Mistake::DownWaitsAtZero,
+        Mistake::LastLeftAsleep,
+        Mistake::LastWokenFirst,
+        Mistake::NewsemaRoomFirst,
+        Mistake::CountOfThread,
+        Mistake::WokenToFront,
+        Mistake::UpSaturates,
+        Mistake::SemaphoreNotTold,
     ];
 }
 
@@ -200,8 +235,11 @@ pub struct Machine {
     pub threads: Vec<Thread>,
     pub mutexes: Vec<Mutex>,
     pub conditions: Vec<Condition>,
+    pub semaphores: Vec<Semaphore>,
     pub ready: VecDeque<usize>,
     mistake: Option<Mistake>,
+    /// Used only by the mistake `CountOfThread`.
+    thread_counts: [i32; THREADS],
 }
 
 impl Machine {
@@ -223,8 +261,10 @@ impl Machine {
             threads: vec![Thread::new(0, 0)],
             mutexes: Vec::new(),
             conditions: Vec::new(),
+            semaphores: Vec::new(),
             ready: VecDeque::new(),
             mistake,
+            thread_counts: [0; THREADS],
         }
     }
 
@@ -439,6 +479,28 @@ impl Machine {
                     self.conditions.push(Condition::default());
                 }
             }
+            Op::Newsema => {
+                me.has(1)?;
+                let count = me.top();
+                let full = self.semaphores.len() == SEMAPHORES;
+                if full && self.mistake == Some(Mistake::NewsemaRoomFirst) {
+                    me.set_top(-1);
+                    return Ok(());
+                }
+                if count < 0 {
+                    return Err(30);
+                }
+                if full {
+                    me.set_top(-1);
+                } else {
+                    me.set_top(self.semaphores.len() as i32);
+                    self.semaphores.push(Semaphore {
+                        count,
+                        waiters: VecDeque::new(),
+                    });
+                    self.thread_counts[t] = count;
+                }
+            }
 
             // Threads.
             Op::Yield => {
@@ -538,6 +600,42 @@ impl Machine {
                     self.wake(waiter);
                 }
             }
+
+            // Semaphores.
+            Op::Up => {
+                me.has(1)?;
+                let s = semaphore_number(me.top(), &self.semaphores)?;
+                let raised = cell(*self.count(t, s) as i64 + 1);
+                let count = match self.mistake {
+                    Some(Mistake::UpSaturates) => raised.unwrap_or(i32::MAX),
+                    _ => raised?,
+                };
+                self.threads[t].drop_top();
+                *self.count(t, s) = count;
+                let wakes = match self.mistake {
+                    Some(Mistake::LastLeftAsleep) => count < 0,
+                    _ => count <= 0,
+                };
+                if wakes {
+                    self.wake_from_semaphore(s);
+                }
+            }
+            Op::Down => {
+                me.has(1)?;
+                let s = semaphore_number(me.top(), &self.semaphores)?;
+                me.drop_top();
+                // Whoever makes it negative waits, so it is never under -32.
+                *self.count(t, s) -= 1;
+                let count = *self.count(t, s);
+                let waits = match self.mistake {
+                    Some(Mistake::DownWaitsAtZero) => count <= 0,
+                    _ => count < 0,
+                };
+                if waits {
+                    self.semaphores[s].waiters.push_back(t);
+                    self.next();
+                }
+            }
         }
         Ok(())
     }
@@ -556,12 +654,13 @@ impl Machine {
         })
     }
 
-    /// The number that is told of a fault: its own, but for two of the mistakes.
+    /// The number that is told of a fault: its own, but for three of the mistakes.
     fn told(&self, fault: u8) -> u8 {
         match (self.mistake, fault) {
             (Some(Mistake::KindsSwapped), NO_CONDITION) => NO_THREAD,
             (Some(Mistake::KindsSwapped), NO_THREAD) => NO_CONDITION,
             (Some(Mistake::KindsNotTold), NO_CONDITION | NO_THREAD) => NO_MUTEX,
+            (Some(Mistake::SemaphoreNotTold), NO_SEMAPHORE) => NO_MUTEX,
             _ => fault,
         }
     }
@@ -621,6 +720,31 @@ impl Machine {
         }
     }
 
+    /// The count that an up or down by thread `t` is about: the semaphore's, but for one of the
+    /// mistakes.
+    fn count(&mut self, t: usize, s: usize) -> &mut i32 {
+        if self.mistake == Some(Mistake::CountOfThread) {
+            &mut self.thread_counts[t]
+        } else {
+            &mut self.semaphores[s].count
+        }
+    }
+
+    /// The semaphore's first waiter goes to the ready tail. Its down is done: it goes on behind it.
+    fn wake_from_semaphore(&mut self, s: usize) {
+        let waiters = &mut self.semaphores[s].waiters;
+        let waiter = match self.mistake {
+            Some(Mistake::LastWokenFirst) => waiters.pop_back(),
+            _ => waiters.pop_front(),
+        };
+        // There is one, since the count was negative; only with a mistake there may be none.
+        match (waiter, self.mistake) {
+            (Some(waiter), Some(Mistake::WokenToFront)) => self.ready.push_front(waiter),
+            (Some(waiter), _) => self.ready.push_back(waiter),
+            (None, mistake) => assert!(mistake.is_some(), "a negative count has a waiter"),
+        }
+    }
+
     /// A condition's waiter goes to the ready tail. It has to execute its lock itself.
     fn wake(&mut self, waiter: usize) {
         if self.mistake == Some(Mistake::WokenPastLock) {
@@ -662,8 +786,8 @@ fn code_address(value: i32, n: usize) -> Result<usize, u8> {
     }
 }
 
-/// The number of a mutex made, or fault 27. This and the next two take their own table, so that no
-/// number is looked for in another.
+/// The number of a mutex made, or fault 27. This and the next three take their own table, so that
+/// no number is looked for in another.
 fn mutex_number(value: i32, mutexes: &[Mutex]) -> Result<usize, u8> {
     number(value, mutexes.len(), NO_MUTEX)
 }
@@ -676,6 +800,11 @@ fn condition_number(value: i32, conditions: &[Condition]) -> Result<usize, u8> {
 /// The number of a thread made, or fault 33.
 fn thread_number(value: i32, threads: &[Thread]) -> Result<usize, u8> {
     number(value, threads.len(), NO_THREAD)
+}
+
+/// The number of a semaphore made, or fault 34.
+fn semaphore_number(value: i32, semaphores: &[Semaphore]) -> Result<usize, u8> {
+    number(value, semaphores.len(), NO_SEMAPHORE)
 }
 
 /// The number of something of which `made` were made, or the fault.

@@ -61,6 +61,13 @@ fn mentions(image: &[u8], mistake: Mistake) -> bool {
             &[Op::Join, Op::Finalize, Op::Wait, Op::Signal, Op::Broadcast]
         }
         Mistake::ThreadAmongMutexes => &[Op::Join, Op::Finalize],
+        Mistake::DownWaitsAtZero => &[Op::Down],
+        Mistake::NewsemaRoomFirst => &[Op::Newsema],
+        Mistake::LastLeftAsleep
+        | Mistake::LastWokenFirst
+        | Mistake::WokenToFront
+        | Mistake::UpSaturates => &[Op::Up],
+        Mistake::CountOfThread | Mistake::SemaphoreNotTold => &[Op::Up, Op::Down],
     };
     image
         .iter()

@@ -22,14 +22,14 @@ pub fn sessions(text: &str) -> Result<Vec<Vec<u8>>, String> {
     Ok(images)
 }
 
-/// No bytes; loadc 7, exit; the same with version 2; jump 2 as second of two; opcode 38 first.
+/// No bytes; loadc 7, exit; the same with version 2; jump 2 as second of two; opcode 41 first.
 fn p1_to_p5() -> Vec<Vec<u8>> {
     let p2 = encode(1, [(Op::Loadc as u8, 7), (Op::Exit as u8, 0)].into_iter());
     let mut p3 = p2.clone();
     p3[4] = 2;
     let p4 = encode(1, [(Op::Loadc as u8, 7), (Op::Jump as u8, 2)].into_iter());
     let mut p5 = p2.clone();
-    p5[9] = 38;
+    p5[9] = 41;
     vec![Vec::new(), p2, p3, p4, p5]
 }
 

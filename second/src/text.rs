@@ -54,7 +54,7 @@ pub fn state_line(machine: &Machine) -> String {
     let last = &machine.threads[machine.last];
     let _ = write!(
         line,
-        "{} {} {} {} {} {} {} {} {} {} {:016x} r:",
+        "{} {} {} {} {} {} {} {} {} {} {} {:016x} r:",
         machine.state as u8,
         machine.fault,
         machine.running.unwrap_or(THREADS),
@@ -65,6 +65,7 @@ pub fn state_line(machine: &Machine) -> String {
         machine.threads.len(),
         machine.mutexes.len(),
         machine.conditions.len(),
+        machine.semaphores.len(),
         store_hash(machine),
     );
     write_queue(&mut line, &machine.ready);
@@ -83,10 +84,16 @@ pub fn state_line(machine: &Machine) -> String {
     for (t, thread) in machine.threads.iter().enumerate() {
         write_waiters('e', t, &thread.joiners);
     }
+    for (s, semaphore) in machine.semaphores.iter().enumerate() {
+        write_waiters('p', s, &semaphore.waiters);
+    }
     for (m, mutex) in machine.mutexes.iter().enumerate() {
         if let Some(owner) = mutex.owner {
             let _ = write!(line, " o{m}={owner}");
         }
+    }
+    for (s, semaphore) in machine.semaphores.iter().enumerate() {
+        let _ = write!(line, " k{s}={}", semaphore.count);
     }
     for (t, thread) in machine.threads.iter().enumerate() {
         if thread.result.is_none() && machine.running != Some(t) {

@@ -276,7 +276,7 @@ fn change_name(r: &mut Random, line: &mut Line) {
         }
         4 | 5 => name.push(r.pick(&['a', 'c', 'r', 'z', 's', '0', '-'])),
         6 => name.clear(),
-        7 => *name = one_of(r, "nop|g|cells|newsema|up|down|release"),
+        7 => *name = one_of(r, "nop|g|cells|sema|newsem|downs|release"),
         // Another instruction's, with or without the operand that it should have.
         _ => *name = r.pick(&Op::ALL).name(),
     }

@@ -2,7 +2,7 @@
 //! instructions and faults reached, and each of the machine's errors found.
 
 use second::cards::{card, Kind};
-use second::machine::{read, Machine, Op, State};
+use second::machine::{read, Machine, Op, Semaphore, State, SEMAPHORES};
 use second::selftest::selftest;
 use second::text::{read_frame, runner_line, write_frame};
 use std::collections::{BTreeMap, BTreeSet};
@@ -26,7 +26,7 @@ fn the_same_again_and_good_unless_damaged() {
 #[test]
 fn all_instructions_and_faults_are_reached() {
     let mut carried_out = [false; Op::ALL.len()];
-    let mut faults = [false; 34];
+    let mut faults = [false; 35];
     let mut refusals = [false; 6];
     for index in 0..COUNT {
         let image = card(SEED, index).1;
@@ -143,7 +143,7 @@ fn place(number: i32, made: usize) -> &'static str {
     }
 }
 
-/// What numbers the next instruction names a thread, mutex or condition by, if it does.
+/// What numbers the next instruction names a thread, mutex, condition or semaphore by, if it does.
 fn named(machine: &Machine) -> Vec<String> {
     let thread = &machine.threads[machine.last];
     let Some(next) = machine.code.get(thread.pc) else {
@@ -151,6 +151,7 @@ fn named(machine: &Machine) -> Vec<String> {
     };
     let threads = machine.threads.len();
     let (mutexes, conditions) = (machine.mutexes.len(), machine.conditions.len());
+    let semaphores = machine.semaphores.len();
     let whats = match (next.op, &thread.stack[..thread.cells]) {
         (Op::Join | Op::Finalize, &[.., t]) => {
             // A look into the mutexes' table would find another answer.
@@ -164,6 +165,14 @@ fn named(machine: &Machine) -> Vec<String> {
         (Op::Lock | Op::Unlock, &[.., m]) => vec![format!("mutex {}", place(m, mutexes))],
         (Op::Signal | Op::Broadcast, &[.., c]) => {
             vec![format!("condition {}", place(c, conditions))]
+        }
+        (Op::Up | Op::Down, &[.., s]) => {
+            let only = match (is_bad(s, semaphores), is_bad(s, mutexes)) {
+                (false, true) => "a semaphore's only",
+                (true, false) => "a mutex's only",
+                _ => "of both or none",
+            };
+            vec![format!("semaphore {}", place(s, semaphores)), only.into()]
         }
         (Op::Wait, &[.., m, c]) => {
             let both = is_bad(m, mutexes) && is_bad(c, conditions);
@@ -209,6 +218,8 @@ fn each_number_is_met_on_both_sides() {
             "wait: condition",
             "signal: condition",
             "broadcast: condition",
+            "up: semaphore",
+            "down: semaphore",
         ] {
             let what = format!("{what} {place}");
             assert!(met.contains(&what), "{what}");
@@ -220,9 +231,180 @@ fn each_number_is_met_on_both_sides() {
         "finalize: a thread's only",
         "finalize: a mutex's only",
         "wait: both bad",
+        "up: a semaphore's only",
+        "up: a mutex's only",
+        "down: a semaphore's only",
+        "down: a mutex's only",
     ] {
         assert!(met.contains(what), "{what}");
     }
+}
+
+/// Makes a step. If it is newsema, up or down with a cell on the stack: what it comes to.
+fn at_a_semaphore(machine: &mut Machine) -> Vec<&'static str> {
+    let thread = &machine.threads[machine.last];
+    let next = machine.code.get(thread.pc).map(|next| next.op);
+    let top = thread.stack[..thread.cells].last().copied();
+    let room = machine.semaphores.len() < SEMAPHORES;
+    let others_ready = !machine.ready.is_empty();
+    machine.step();
+    let (Some(op), Some(top)) = (next, top) else {
+        return Vec::new();
+    };
+    let count = || machine.semaphores[top as usize].count;
+    let mut whats = Vec::new();
+    match (op, machine.fault) {
+        (Op::Newsema, 30) if room => whats.push("newsema: 30, room"),
+        (Op::Newsema, 30) => whats.push("newsema: 30, no room"),
+        (Op::Newsema, 0) if room => {
+            whats.push(match top {
+                0 => "newsema: starts at 0",
+                1 => "newsema: starts at 1",
+                i32::MAX => "newsema: starts at the largest count",
+                _ => "newsema: starts at another count",
+            });
+            if machine.semaphores.len() == SEMAPHORES {
+                whats.push("newsema: the last one");
+            }
+        }
+        (Op::Newsema, 0) => whats.push("newsema: -1"),
+        (Op::Up, 34) => whats.push("up: 34"),
+        (Op::Up, 24) => whats.push("up: 24"),
+        (Op::Up, 0) => {
+            whats.push(match count() {
+                i32::MAX => "up: to the largest count",
+                1.. => "up: wakes nobody",
+                0 => "up: wakes the only one",
+                _ => "up: wakes the first of several",
+            });
+            if count() <= 0 && others_ready {
+                whats.push("up: wakes one, others are ready");
+            }
+        }
+        (Op::Down, 34) => whats.push("down: 34"),
+        (Op::Down, 0) => {
+            whats.push(match count() {
+                1.. => "down: goes on",
+                0 => "down: goes on, to 0",
+                -1 => "down: waits alone",
+                -31 => "down: waits, to -31",
+                -32 => "down: waits, to -32",
+                _ => "down: waits behind others",
+            });
+            if machine.state == State::Stuck {
+                whats.push("down: stuck");
+            }
+        }
+        _ => {}
+    }
+    whats
+}
+
+/// The number waiting for each semaphore is the larger of 0 and minus its count.
+fn counts_are_right(machine: &Machine) -> bool {
+    let waiting = |count: i64| (-count).max(0);
+    let right = |s: &Semaphore| s.waiters.len() as i64 == waiting(s.count as i64);
+    machine.semaphores.iter().all(right)
+}
+
+#[test]
+fn semaphores_are_met_on_both_sides() {
+    let mut counts = BTreeMap::new();
+    for index in 0..COUNT {
+        if let Ok(card) = read(&card(SEED, index).1) {
+            let mut machine = Machine::new(&card);
+            for _ in 0..2000 {
+                for what in at_a_semaphore(&mut machine) {
+                    *counts.entry(what).or_insert(0) += 1;
+                }
+                assert!(counts_are_right(&machine), "card {index}");
+                if machine.state != State::Running {
+                    break;
+                }
+            }
+        }
+    }
+    let all = [
+        "down: 34",
+        "down: goes on",
+        "down: goes on, to 0",
+        "down: stuck",
+        "down: waits alone",
+        "down: waits behind others",
+        "down: waits, to -31",
+        "down: waits, to -32",
+        "newsema: -1",
+        "newsema: 30, no room",
+        "newsema: 30, room",
+        "newsema: starts at 0",
+        "newsema: starts at 1",
+        "newsema: starts at another count",
+        "newsema: starts at the largest count",
+        "newsema: the last one",
+        "up: 24",
+        "up: 34",
+        "up: to the largest count",
+        "up: wakes nobody",
+        "up: wakes one, others are ready",
+        "up: wakes the first of several",
+        "up: wakes the only one",
+    ];
+    assert!(counts.keys().eq(all.iter()), "{counts:#?}");
+    assert!(counts.values().all(|&count| count >= 3), "{counts:#?}");
+}
+
+#[test]
+fn counts_are_starts_plus_ups_less_downs() {
+    for index in 0..COUNT {
+        let Ok(card) = read(&card(SEED, index).1) else {
+            continue;
+        };
+        let mut machine = Machine::new(&card);
+        let mut book: Vec<i64> = Vec::new();
+        for _ in 0..2000 {
+            let thread = &machine.threads[machine.last];
+            let op = machine.code.get(thread.pc).map(|next| next.op);
+            let top = thread.stack[..thread.cells].last().copied().unwrap_or(0);
+            if !machine.step() {
+                break;
+            }
+            match op {
+                Some(Op::Newsema) if book.len() < SEMAPHORES => book.push(top as i64),
+                Some(Op::Up) => book[top as usize] += 1,
+                Some(Op::Down) => book[top as usize] -= 1,
+                _ => {}
+            }
+            let counts = machine.semaphores.iter().map(|s| s.count as i64);
+            assert!(counts.eq(book.iter().copied()), "card {index}");
+        }
+    }
+}
+
+/// A thread that waited for a semaphore ends, and so many or more go on then.
+fn woken_ends(machine: &mut Machine, joiners: usize) -> bool {
+    let mut waited = BTreeSet::new();
+    for _ in 0..2000 {
+        for semaphore in &machine.semaphores {
+            waited.extend(semaphore.waiters.iter().copied());
+        }
+        let t = machine.last;
+        let awaited = machine.threads[t].joiners.len();
+        if !machine.step() {
+            return false;
+        }
+        if machine.threads[t].result.is_some() && waited.contains(&t) && awaited >= joiners {
+            return true;
+        }
+    }
+    false
+}
+
+#[test]
+fn a_woken_thread_ends_and_wakes_two() {
+    let found = (0..COUNT)
+        .filter_map(|index| read(&card(SEED, index).1).ok())
+        .filter(|card| woken_ends(&mut Machine::new(card), 2));
+    assert!(found.count() >= 10);
 }
 
 #[test]

@@ -142,6 +142,7 @@ fn the_sessions_cards() {
                  no instruction: 0*halt\n\
                  too many: 4097*halt\n\
                  a full card: 4096*yield\n\
+                 semaphores: loadc 1, newsema, dup, down, up\n\
                  refused by the writer: alloc 128\n\
                  also refused: nop\n\
                  no cells: g 0, halt\n";
@@ -150,7 +151,7 @@ fn the_sessions_cards() {
     let mut p3 = p2.clone();
     p3[4] = 2;
     let mut p5 = p2.clone();
-    p5[9] = 38;
+    p5[9] = 41;
     let expected = vec![
         Vec::new(),
         p2,
@@ -160,6 +161,7 @@ fn the_sessions_cards() {
         image("newmutex, dup, lock, lock"),
         image_with(4096, "loadc -1, new, exit"),
         image("4096*yield"),
+        image("loadc 1, newsema, dup, down, up"),
         image("alloc 128"),
         vec![0, 0, 0, 9, 1, 0, 1, 0, 1, 255, 0, 0, 0],
         image_with(0, "halt"),
@@ -172,14 +174,14 @@ fn the_sessions_cards() {
 #[test]
 fn errors_have_their_numbers() {
     for (words, most) in [
-        (&["lines"][..], 13),
-        (&["trace", "9"], 13),
+        (&["lines"][..], 21),
+        (&["trace", "9"], 21),
         (&["listings"], 4),
         (&["imports"], 7),
         (&["retexts"], 0),
         (&["hex"], 0),
     ] {
-        for e in 0..=14 {
+        for e in 0..=22 {
             let number = e.to_string();
             let mut words = words.to_vec();
             words.extend(["--error", &number]);

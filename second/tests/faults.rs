@@ -45,6 +45,9 @@ fn fault_21() {
         "unlock",
         "signal",
         "broadcast",
+        "newsema",
+        "up",
+        "down",
     ] {
         assert_eq!(
             line(&format!("3*pop, {op}, halt")),
@@ -111,6 +114,8 @@ fn fault_22() {
         // Nothing of these pushes.
         ("alloc 125, load, loadc 5", "fault 22 0 2 2"),
         ("alloc 125, storer 125, halt", "halted 3 -"),
+        ("alloc 125, newsema, halt", "halted 3 -"),
+        ("alloc 125, newsema, dup", "fault 22 0 2 2"),
     ]);
 }
 
@@ -184,6 +189,28 @@ fn fault_24() {
     for (text, expected) in rows {
         assert_eq!(line(&text), expected, "{text}");
     }
+}
+
+#[test]
+fn fault_24_by_up() {
+    // An up at the largest count changes nothing: the number stays on the stack.
+    faults(&format!("{MAX}, newsema"), "up", 24);
+    faults(
+        &format!("{MAX}, newsema, loadc 1, newsema, pop, loadc 0"),
+        "up",
+        24,
+    );
+    // One below it can be raised once, and what was lowered can be raised again.
+    let below = format!("{MAX}, loadc -1, add, newsema, pop, loadc 0, up");
+    goes_on(&below);
+    faults(&format!("{below}, loadc 0"), "up", 24);
+    let lowered = format!("{MAX}, newsema, dup, down, loadc 0, up");
+    goes_on(&lowered);
+    faults(&format!("{lowered}, loadc 0"), "up", 24);
+    // Another semaphore's count doesn't matter.
+    goes_on(&format!("{MAX}, newsema, pop, loadc 0, newsema, up"));
+    // Down goes to its own end: whoever makes the count negative waits.
+    check(&[("loadc 0, newsema, down", "stuck 3")]);
 }
 
 #[test]
@@ -268,18 +295,27 @@ fn fault_26() {
     ]);
 }
 
-/// How many threads, mutexes and conditions are made: each kind is once the fewest, once in the
-/// middle and once the most, so that a number looked for in another table shows; then all tables
-/// are full.
-const MADE: [(usize, usize, usize); 4] = [(1, 2, 3), (2, 3, 1), (3, 1, 2), (32, 64, 64)];
+/// How many threads, mutexes, conditions and semaphores.
+type Counts = (usize, usize, usize, usize);
+
+/// Each kind is once the fewest, twice in the middle and once the most, so that a number looked for
+/// in another table shows; then all tables are full.
+const MADE: [Counts; 5] = [
+    (1, 2, 3, 4),
+    (2, 3, 4, 1),
+    (3, 4, 1, 2),
+    (4, 1, 2, 3),
+    (32, 64, 64, 32),
+];
 
 /// The start of a card that makes so many, thread 0 among them. The other threads do the card's
-/// last instruction once they run.
-fn made((threads, mutexes, conditions): (usize, usize, usize)) -> String {
+/// last instruction once they run. The semaphores start at 1.
+fn made((threads, mutexes, conditions, semaphores): Counts) -> String {
     let threads = "loadc @-1, loadc 0, create, pop, ".repeat(threads - 1);
     let mutexes = "newmutex, pop, ".repeat(mutexes);
     let conditions = "newcond, pop, ".repeat(conditions);
-    threads + &mutexes + &conditions
+    let semaphores = "loadc 1, newsema, pop, ".repeat(semaphores);
+    threads + &mutexes + &conditions + &semaphores
 }
 
 /// What pushes a number that none of so many has: one too few, one too many, and the two furthest.
@@ -315,7 +351,7 @@ fn goes_on(text: &str) {
 
 #[test]
 fn fault_27() {
-    for counts @ (threads, mutexes, conditions) in MADE {
+    for counts @ (threads, mutexes, conditions, _) in MADE {
         let start = made(counts);
         let condition = format!("loadc {}", conditions - 1);
         for bad in none_of(mutexes) {
@@ -343,7 +379,7 @@ fn fault_27() {
 
 #[test]
 fn fault_32() {
-    for counts @ (_, mutexes, conditions) in MADE {
+    for counts @ (_, mutexes, conditions, _) in MADE {
         let start = made(counts);
         let mutex = format!("loadc {}", mutexes - 1);
         for bad in none_of(conditions) {
@@ -370,7 +406,7 @@ fn fault_32() {
 
 #[test]
 fn fault_33() {
-    for counts @ (threads, _, _) in MADE {
+    for counts @ (threads, ..) in MADE {
         let start = made(counts);
         for bad in none_of(threads) {
             faults(&format!("{start} {bad}"), "join", 33);
@@ -398,9 +434,36 @@ fn fault_33() {
 }
 
 #[test]
+fn fault_34() {
+    for counts @ (threads, _, _, semaphores) in MADE {
+        let start = made(counts);
+        for bad in none_of(semaphores) {
+            faults(&format!("{start} {bad}"), "up", 34);
+            faults(&format!("{start} {bad}"), "down", 34);
+        }
+        // The last one made is good.
+        let last = format!("loadc {}", semaphores - 1);
+        goes_on(&format!("{start} {last}, up"));
+        goes_on(&format!("{start} {last}, down"));
+        // A second down waits: each of the other threads ends, and thread 0 still waits.
+        let waiting = format!("{start} {last}, down, {last}, down");
+        let steps = length(&waiting) + threads as u64 - 1;
+        let text = format!("{waiting}, return");
+        assert_eq!(line(&text), format!("stuck {steps}"), "{text}");
+    }
+    // None is made: each number is bad.
+    for number in ["loadc -1", "loadc 0", "loadc 1", MIN, MAX] {
+        faults(number, "up", 34);
+        faults(number, "down", 34);
+    }
+    // 34 before 24: a semaphore that isn't there has no count.
+    faults(&format!("{MAX}, newsema, loadc 1"), "up", 34);
+}
+
+#[test]
 fn a_number_that_was_not_given_is_bad() {
-    // What create, newmutex and newcond push when there is no more room names nothing.
-    let full = made((32, 64, 64));
+    // What create, newmutex, newcond and newsema give when there is no more room names nothing.
+    let full = made((32, 64, 64, 32));
     faults(&format!("{full} newmutex"), "lock", 27);
     faults(&format!("{full} newmutex"), "unlock", 27);
     faults(&format!("{full} newcond"), "signal", 32);
@@ -410,6 +473,8 @@ fn a_number_that_was_not_given_is_bad() {
     faults(&format!("{full} newmutex, loadc 63"), "wait", 27);
     faults(&format!("{full} loadc 63, newcond"), "wait", 32);
     faults(&format!("{full} newmutex, newcond"), "wait", 32);
+    faults(&format!("{full} loadc 1, newsema"), "up", 34);
+    faults(&format!("{full} loadc 1, newsema"), "down", 34);
     // A thread that has ended is still named by its number.
     check(&[
         (
@@ -434,6 +499,14 @@ fn another_thread_than_0_has_a_bad_number() {
             "loadc 4, loadc 0, create, yield, loadc 0, signal",
             "fault 32 1 5 5",
         ),
+        (
+            "loadc 4, loadc 0, create, yield, loadc 0, up",
+            "fault 34 1 5 5",
+        ),
+        (
+            "loadc 4, loadc 0, create, yield, loadc 0, down",
+            "fault 34 1 5 5",
+        ),
         // Threads 0 and 1 are there, 2 isn't.
         (
             "loadc 4, loadc 0, create, yield, loadc 2, join",
@@ -448,7 +521,7 @@ fn another_thread_than_0_has_a_bad_number() {
 
 #[test]
 fn wait_looks_at_the_condition_then_the_mutex_then_the_owner() {
-    let both = made((1, 2, 3));
+    let both = made((1, 2, 3, 4));
     let owning = format!("{both} loadc 1, lock, ");
     for condition in none_of(3) {
         // 32 before 27, and before 28: mutex 1 isn't owned, or is.
@@ -467,7 +540,7 @@ fn wait_looks_at_the_condition_then_the_mutex_then_the_owner() {
     faults(&format!("{both} loadc 1, loadc 2"), "wait", 28);
     faults(&format!("{owning} loadc 0, loadc 2"), "wait", 28);
     // Top is the condition, below it the mutex: 1 is good for one of the two only.
-    let (one, two) = (made((1, 1, 2)), made((1, 2, 1)));
+    let (one, two) = (made((1, 1, 2, 3)), made((1, 2, 1, 3)));
     faults(&format!("{one} loadc 1, loadc 0"), "wait", 27);
     faults(&format!("{one} loadc 0, loadc 1"), "wait", 28);
     faults(&format!("{two} loadc 1, loadc 0"), "wait", 28);
@@ -477,7 +550,7 @@ fn wait_looks_at_the_condition_then_the_mutex_then_the_owner() {
 #[test]
 fn fault_21_comes_before_a_bad_number() {
     // All are made and thread 0 owns what it could wait with, or nothing is made.
-    let owning = made((2, 2, 2)) + "loadc 0, lock, loadc 1, lock, ";
+    let owning = made((2, 2, 2, 2)) + "loadc 0, lock, loadc 1, lock, ";
     for start in ["", &owning] {
         for op in [
             "join",
@@ -487,6 +560,9 @@ fn fault_21_comes_before_a_bad_number() {
             "signal",
             "broadcast",
             "wait",
+            "up",
+            "down",
+            "newsema",
         ] {
             faults(&format!("{start} 3*pop"), op, 21);
         }
@@ -540,6 +616,26 @@ fn fault_30() {
         ("loadc 0, new", "fault 30 0 1 1"),
         ("loadc -1, new", "fault 30 0 1 1"),
     ]);
+}
+
+#[test]
+fn fault_30_by_newsema() {
+    // A starting count of 0 is good, one below isn't; with room and without.
+    for made in [0, 1, 31, 32] {
+        let start = "loadc 1, newsema, pop, ".repeat(made);
+        for negative in ["loadc -1", "loadc -2", "loadc -8388608", MIN] {
+            faults(&format!("{start} {negative}"), "newsema", 30);
+        }
+        let number = if made < 32 { made as i32 } else { -1 };
+        for count in ["loadc 0", "loadc 1", "loadc 8388607", MAX] {
+            let text = format!("{start} {count}, newsema, exit");
+            let steps = length(&text);
+            assert_eq!(line(&text), format!("halted {steps} {number}"), "{text}");
+        }
+    }
+    // The -1 that newsema gives is no starting count.
+    let full = "loadc 1, newsema, pop, ".repeat(32);
+    faults(&format!("{full} loadc 1, newsema"), "newsema", 30);
 }
 
 #[test]

@@ -107,7 +107,7 @@ fn a_refused_image_gives_the_readers_number_and_place() {
     assert_eq!(list(&[]), "refused 1 0\n");
     assert_eq!(list(&changed(4, 2)), "refused 2 4\n");
     assert_eq!(list(&changed(6, 0)), "refused 3 5\n");
-    assert_eq!(list(&changed(9, 38)), "refused 4 9\n");
+    assert_eq!(list(&changed(9, 41)), "refused 4 9\n");
     assert_eq!(list(&image("loadc 7, jump 2")), "refused 5 13\n");
     // An operand where there is none.
     assert_eq!(list(&image("loadc 7, exit 1")), "refused 5 13\n");

@@ -18,7 +18,7 @@ fn p1_to_p5() {
     assert_eq!(runner_line(&p3, None), "refused 2 4");
     assert_eq!(line("loadc 7, jump 2"), "refused 5 13");
     let mut p5 = P2;
-    p5[9] = 38;
+    p5[9] = 41;
     assert_eq!(runner_line(&p5, None), "refused 4 9");
 }
 
@@ -96,6 +96,48 @@ fn sixty_four_and_sixty_five_mutexes_and_conditions() {
 }
 
 #[test]
+fn thirty_two_and_thirty_three_semaphores() {
+    let made = |times: usize| "loadc 1, newsema, pop, ".repeat(times);
+    for (text, expected) in [
+        (
+            format!("{} loadc 1, newsema, exit", made(31)),
+            "halted 96 31",
+        ),
+        (
+            format!("{} loadc 1, newsema, exit", made(32)),
+            "halted 99 -1",
+        ),
+        // It stays so.
+        (
+            format!("{} loadc 0, newsema, exit", made(34)),
+            "halted 105 -1",
+        ),
+        (format!("{} loadc 31, down", made(32)), "fault 20 0 98 98"),
+        (format!("{} loadc 32, down", made(32)), "fault 34 0 97 97"),
+        (
+            format!("{} loadc 1, newsema, down", made(32)),
+            "fault 34 0 98 98",
+        ),
+        (
+            format!("{} loadc 1, newsema, up", made(32)),
+            "fault 34 0 98 98",
+        ),
+    ] {
+        assert_eq!(line(&text), expected, "{text}");
+    }
+    // The other kinds have their own numbers and their own room.
+    let full = made(32);
+    let rows = [
+        (format!("{full} newmutex, exit"), "halted 98 0"),
+        (format!("{full} newcond, exit"), "halted 98 0"),
+        ("64*newmutex, loadc 1, newsema, exit".into(), "halted 67 0"),
+    ];
+    for (text, expected) in rows {
+        assert_eq!(line(&text), expected, "{text}");
+    }
+}
+
+#[test]
 fn jump_4095_in_a_full_card() {
     assert_eq!(line("jump 4095, 4094*pop, halt"), "halted 2 -");
     assert_eq!(line("jump 4095, 4095*yield"), "fault 20 0 4096 2");
@@ -159,21 +201,25 @@ fn the_reader_on_both_sides() {
     long[7..9].copy_from_slice(&[0x10, 1]);
     assert_eq!(refused(&long), Some((3, 5)));
     // 4 before 5, and the first bad instruction
-    assert_eq!(refused(&changed(13, &[38, 0, 0, 1])), Some((4, 13)));
-    assert_eq!(refused(&changed(13, &[37, 0, 0, 1])), Some((5, 13)));
-    assert_eq!(refused(&changed(13, &[37, 0, 0, 0])), None);
-    assert_eq!(refused(&changed(9, &[0, 0, 0, 1, 38])), Some((5, 9)));
-    assert_eq!(refused(&changed(9, &[255, 0, 0, 1, 38])), Some((4, 9)));
+    assert_eq!(refused(&changed(13, &[41, 0, 0, 0])), Some((4, 13)));
+    assert_eq!(refused(&changed(13, &[41, 0, 0, 1])), Some((4, 13)));
+    for opcode in 37..=40 {
+        assert_eq!(refused(&changed(13, &[opcode, 0, 0, 1])), Some((5, 13)));
+        assert_eq!(refused(&changed(13, &[opcode, 0, 0, 0])), None);
+    }
+    assert_eq!(refused(&changed(9, &[0, 0, 0, 1, 41])), Some((5, 9)));
+    assert_eq!(refused(&changed(9, &[255, 0, 0, 1, 41])), Some((4, 9)));
 }
 
 #[test]
-fn opcodes_by_the_paper() {
-    let paper = "0 halt, 1 loadc k, 2 load, 3 store, 4 loadr k, 5 storer k, 6 alloc k, 7 pop, \
+fn opcodes_by_the_papers() {
+    let papers = "0 halt, 1 loadc k, 2 load, 3 store, 4 loadr k, 5 storer k, 6 alloc k, 7 pop, \
                  8 dup, 9 add, 10 sub, 11 mul, 12 div, 13 mod, 14 neg, 15 eq, 16 neq, 17 less, \
                  18 leq, 19 not, 20 jump a, 21 jumpz a, 22 mark, 23 call, 24 return, 25 new, \
                  26 create, 27 yield, 28 exit, 29 join, 30 finalize, 31 newmutex, 32 lock, \
-                 33 unlock, 34 newcond, 35 wait, 36 signal, 37 broadcast";
-    let rows: Vec<&str> = paper.split(", ").collect();
+                 33 unlock, 34 newcond, 35 wait, 36 signal, 37 broadcast, 38 newsema, \
+                 39 up, 40 down";
+    let rows: Vec<&str> = papers.split(", ").collect();
     assert_eq!(rows.len(), Op::ALL.len());
     for (op, row) in Op::ALL.into_iter().zip(rows) {
         let mut words = row.split(' ');

@@ -17,28 +17,30 @@ fn after(text: &str, steps: u64) -> String {
 fn state_lines_of_the_readme() {
     // newmutex, dup, lock, lock: thread 0 waits for its own mutex for good.
     let text = "newmutex, dup, lock, lock";
-    assert_eq!(after(text, 0), "1 0 0 0 3 2 1 1 0 0 34fcf18305d74f87 r:[]");
-    assert_eq!(after(text, 1), "1 0 0 1 4 2 1 1 1 0 34fcf18305d74f87 r:[]");
-    assert_eq!(
-        after(text, 3),
-        "1 0 0 3 4 2 1 1 1 0 34fcf18305d74f87 r:[] o0=0"
-    );
-    assert_eq!(
-        after(text, 4),
-        "2 0 32 4 3 2 1 1 1 0 34fcf18305d74f87 r:[] m0:[0] o0=0 s0=(4,3,2)"
-    );
+    for (steps, expected) in [
+        "1 0 0 0 3 2 1 1 0 0 0 34fcf18305d74f87 r:[]",
+        "1 0 0 1 4 2 1 1 1 0 0 34fcf18305d74f87 r:[]",
+        "1 0 0 2 5 2 1 1 1 0 0 34fcf18305d74f87 r:[]",
+        "1 0 0 3 4 2 1 1 1 0 0 34fcf18305d74f87 r:[] o0=0",
+        "2 0 32 4 3 2 1 1 1 0 0 34fcf18305d74f87 r:[] m0:[0] o0=0 s0=(4,3,2)",
+    ]
+    .into_iter()
+    .enumerate()
+    {
+        assert_eq!(after(text, steps as u64), expected);
+    }
 }
 
 #[test]
 fn a_changed_cell_changes_the_hash() {
     assert_eq!(
         after("loadc 7, halt", 1),
-        "1 0 0 1 4 2 1 1 0 0 fc1bbcc7052ceb7e r:[]"
+        "1 0 0 1 4 2 1 1 0 0 0 fc1bbcc7052ceb7e r:[]"
     );
     // A popped cell stays.
     assert_eq!(
         after("loadc 7, pop", 2),
-        "1 0 0 2 3 2 1 1 0 0 fc1bbcc7052ceb7e r:[]"
+        "1 0 0 2 3 2 1 1 0 0 0 fc1bbcc7052ceb7e r:[]"
     );
 }
 
@@ -47,15 +49,15 @@ fn registers_after_the_last_end() {
     // Nobody runs any more: the registers keep what the last thread had.
     let text = "loadc 3, loadc 5, create, return";
     let line = after(text, 9);
-    assert!(line.starts_with("0 0 32 4 3 2 1 2 0 0 "), "{line}");
+    assert!(line.starts_with("0 0 32 4 3 2 1 2 0 0 0 "), "{line}");
     assert!(line.ends_with(" r:[] v0=0 v1=5"), "{line}");
     // Halted by halt, the thread stays the running one and the others stay where they were.
     let line = after("loadc 3, loadc 5, create, halt", 9);
-    assert!(line.starts_with("0 0 0 4 4 2 1 2 0 0 "), "{line}");
+    assert!(line.starts_with("0 0 0 4 4 2 1 2 0 0 0 "), "{line}");
     assert!(line.ends_with(" r:[1] s1=(3,3,2)"), "{line}");
     // A fault leaves PC at the instruction.
     let line = after("loadc 3, loadc -1, load", 9);
-    assert!(line.starts_with("3 23 0 2 5 2 1 1 0 0 "), "{line}");
+    assert!(line.starts_with("3 23 0 2 5 2 1 1 0 0 0 "), "{line}");
 }
 
 #[test]

@@ -241,7 +241,7 @@ impl Asm {
         self.place(done);
     }
 
-    // Threads, mutexes, conditions.
+    // Threads, mutexes, conditions, semaphores.
 
     /// A fresh cell with a new mutex in it.
     pub fn mutex(&mut self) -> i32 {
@@ -255,6 +255,15 @@ impl Asm {
     pub fn condition(&mut self) -> i32 {
         let cell = self.cell();
         self.op(Op::Newcond);
+        self.set(cell);
+        cell
+    }
+
+    /// A fresh cell with a new semaphore in it.
+    pub fn semaphore(&mut self, start: i32) -> i32 {
+        let cell = self.cell();
+        self.number(start);
+        self.op(Op::Newsema);
         self.set(cell);
         cell
     }
@@ -314,6 +323,16 @@ impl Asm {
         self.wait(mutex, condition);
         self.to(Op::Jump, again);
         self.place(done);
+    }
+
+    pub fn up(&mut self, semaphore: i32) {
+        self.get(semaphore);
+        self.op(Op::Up);
+    }
+
+    pub fn down(&mut self, semaphore: i32) {
+        self.get(semaphore);
+        self.op(Op::Down);
     }
 
     /// None to `most` yields.

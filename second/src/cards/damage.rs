@@ -74,7 +74,7 @@ fn damage_once(r: &mut Random, mut image: Vec<u8>) -> Vec<u8> {
         // A bad opcode.
         9 => {
             let i = r.below(n);
-            image[9 + 4 * i] = r.pick(&[38, 38, 39, 64, 128, 255]);
+            image[9 + 4 * i] = r.pick(&[41, 41, 42, 64, 128, 255]);
         }
         // An operand at the edge of its rule, on either side, in one place or in two.
         10 | 11 => {

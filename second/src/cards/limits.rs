@@ -1,5 +1,6 @@
-//! Cards near a limit: 32 threads, 64 mutexes and conditions, the ends of 32 bits, cell 127, 4,096
-//! instructions, the last shared cell; and cards that bring one instruction to its edges.
+//! Cards near a limit: 32 threads and semaphores, 64 mutexes and conditions, a semaphore's largest
+//! and least count, the ends of 32 bits, cell 127, 4,096 instructions, the last shared cell; and
+//! cards that bring one instruction to its edges.
 
 use super::asm::{Asm, Code, LOG};
 use super::random::Random;
@@ -9,10 +10,13 @@ use crate::machine::{Op, LIMIT};
 type Limit = fn(&mut Random) -> Code;
 
 /// All of them, each as often as its weight says.
-pub const LIMITS: [(usize, Limit); 8] = [
-    (2, full_house),
+pub const LIMITS: [(usize, Limit); 11] = [
+    (3, full_house),
     (2, many_threads),
     (2, many_objects),
+    (4, many_semaphores),
+    (3, high_counts),
+    (3, low_counts),
     (3, deep_frames),
     (3, big_numbers),
     (2, long),
@@ -190,6 +194,118 @@ fn many_objects(r: &mut Random) -> Code {
         a.op(Op::Wait);
     }
     a.end_with_log(r);
+    a.finish()
+}
+
+/// Makes 30 to 33 semaphores in as few steps as can be, then one or two more, whose starting count
+/// may be negative: that is tested before the room. Then it uses those at the ends.
+fn many_semaphores(r: &mut Random) -> Code {
+    let mut a = Asm::new();
+    for _ in 0..r.pick(&[30, 31, 32, 32, 32, 32, 33]) {
+        a.constant(r.pick(&[0, 1, 1, 2]));
+        a.op(Op::Newsema);
+        a.op(Op::Pop);
+    }
+    for _ in 0..r.range(1, 2) {
+        a.number(r.pick(&[-1, -1, -1, 0, 1, 5, i32::MIN, i32::MAX]));
+        a.op(Op::Newsema);
+        a.op(Op::Dup);
+        a.log();
+    }
+    for _ in 0..r.range(0, 6) {
+        // What the last newsema gave is still on top.
+        if r.percent(20) {
+            a.op(Op::Dup);
+        } else {
+            a.constant(r.pick(&[0, 1, 30, 31, 31, 32, -1]));
+        }
+        a.op(r.pick(&[Op::Up, Op::Up, Op::Down]));
+    }
+    a.end_with_log(r);
+    a.finish()
+}
+
+/// A semaphore that starts at the largest count or just below it, with ups and downs by one thread
+/// or two.
+fn high_counts(r: &mut Random) -> Code {
+    let mut a = Asm::new();
+    let s = a.semaphore(i32::MAX - r.weighted(&[(5, 0), (4, 1), (2, 2), (1, 9)]));
+    let entry = a.label();
+    let threads = if r.percent(40) {
+        vec![a.fork(entry, 7)]
+    } else {
+        Vec::new()
+    };
+    high_acts(&mut a, r, s);
+    for cell in threads {
+        a.collect(cell);
+    }
+    a.end_with_log(r);
+    a.place(entry);
+    high_acts(&mut a, r, s);
+    a.opk(Op::Loadr, -2);
+    a.end_thread(r);
+    a.finish()
+}
+
+fn high_acts(a: &mut Asm, r: &mut Random, s: i32) {
+    for i in 0..r.range(1, 6) {
+        if r.percent(70) {
+            a.up(s);
+        } else {
+            a.down(s);
+        }
+        a.constant(i);
+        a.log();
+        a.yields(r, 1);
+    }
+}
+
+/// Up to 31 threads wait for semaphore 0, so that its count is down to -31, in as few steps as can
+/// be; thread 0 raises it again as often, or waits too.
+fn low_counts(r: &mut Random) -> Code {
+    let mut a = Asm::new();
+    let entry = a.label();
+    let act = |a: &mut Asm, op: Op| {
+        a.constant(0);
+        a.op(op);
+    };
+    a.constant(r.pick(&[0, 0, 0, 1]));
+    a.op(Op::Newsema);
+    a.op(Op::Pop);
+    let waiters = r.pick(&[29, 30, 31, 31, 31]);
+    for id in 1..=waiters {
+        a.to(Op::Loadc, entry);
+        a.constant(id);
+        a.op(Op::Create);
+        a.op(Op::Pop);
+    }
+    a.op(Op::Yield);
+    let ups = r.pick(&[0, waiters - 1, waiters, waiters, waiters + 1]);
+    for _ in 0..ups {
+        act(&mut a, Op::Up);
+    }
+    if r.percent(30) {
+        a.op(Op::Yield);
+    }
+    let downs = if ups == 0 { 1 } else { r.range(0, 2) };
+    for _ in 0..downs {
+        act(&mut a, Op::Down);
+        a.constant(99);
+        a.log();
+    }
+    if r.percent(70) {
+        a.constant(r.range(1, waiters));
+        a.op(Op::Join);
+        a.op(Op::Finalize);
+        a.log();
+    }
+    a.end_with_log(r);
+    a.place(entry);
+    act(&mut a, Op::Down);
+    a.log_local(-2);
+    a.opk(Op::Loadr, -2);
+    a.end_thread(r);
     a.finish()
 }
 
@@ -450,6 +566,7 @@ enum Number {
 struct Made {
     mutexes: i32,
     conditions: i32,
+    semaphores: i32,
     threads: i32,
     globals: i32,
 }
@@ -470,6 +587,7 @@ fn both_sides(op: Op, made: &Made) -> (Vec<Number>, Vec<Number>) {
     };
     let mutexes = of(made.mutexes, 64);
     let conditions = of(made.conditions, 64);
+    let semaphores = of(made.semaphores, 32);
     let threads = of(made.threads, 32);
     let places = [-1, 0, 1].map(Number::Last);
     let places = [&places[..], &is(&[-1, 0])].concat();
@@ -486,6 +604,8 @@ fn both_sides(op: Op, made: &Made) -> (Vec<Number>, Vec<Number>) {
         Op::Lock | Op::Unlock => (mutexes, any),
         Op::Signal | Op::Broadcast => (conditions, any),
         Op::Wait => (conditions, mutexes),
+        Op::Newsema => (is(&[i32::MIN, -1, -1, 0, 1, i32::MAX]), any),
+        Op::Up | Op::Down => (semaphores, any),
         Op::Div | Op::Mod => (
             is(&[-1, -1, 0, 1, 2]),
             is(&[i32::MIN, i32::MIN + 1, -7, i32::MAX]),
@@ -505,6 +625,7 @@ pub fn edge(r: &mut Random) -> Code {
     let made = Made {
         mutexes: r.weighted(&[(3, 0), (6, 1), (6, 2), (3, 3), (1, 63), (2, 64)]),
         conditions: r.weighted(&[(3, 0), (6, 1), (6, 2), (1, 63), (2, 64)]),
+        semaphores: r.weighted(&[(3, 0), (6, 1), (6, 2), (1, 31), (2, 32)]),
         threads: 1 + r.weighted(&[(5, 0), (5, 1), (5, 2), (1, 30), (2, 31)]),
         globals: 16,
     };
@@ -522,6 +643,10 @@ pub fn edge(r: &mut Random) -> Code {
         Op::Neg,
         Op::Call,
         Op::Wait,
+        Op::Newsema,
+        Op::Up,
+        Op::Up,
+        Op::Down,
     ];
     let mut ops = vec![if r.percent(35) {
         r.pick(&often)
@@ -560,6 +685,18 @@ pub fn edge(r: &mut Random) -> Code {
     }
     for _ in 0..made.conditions {
         a.op(Op::Newcond);
+        a.op(Op::Pop);
+    }
+    // Where up comes to the point, mostly with a count that can't be raised any more, or just once.
+    let starts: &[i32] = if ops[0] == Op::Up {
+        &[0, i32::MAX - 1, i32::MAX, i32::MAX]
+    } else {
+        &[0, 0, 1, 1, 2]
+    };
+    let start = r.pick(starts);
+    for _ in 0..made.semaphores {
+        a.number(start);
+        a.op(Op::Newsema);
         a.op(Op::Pop);
     }
     for id in 1..made.threads {
@@ -671,7 +808,7 @@ pub fn edge(r: &mut Random) -> Code {
 
     // The other threads: they end, wait, or hold what they locked.
     a.place(child);
-    match r.below(6) {
+    match r.below(7) {
         0 => a.op(Op::Yield),
         1 => {
             a.constant(0);
@@ -695,6 +832,10 @@ pub fn edge(r: &mut Random) -> Code {
             a.constant(0);
             a.op(Op::Wait);
             a.op(Op::Lock);
+        }
+        4 if made.semaphores > 0 => {
+            a.constant(made.semaphores - 1);
+            a.op(Op::Down);
         }
         _ => {}
     }

@@ -1,11 +1,12 @@
-//! Cards that come to one instruction which names a thread, a mutex or a condition by a number.
+//! Cards that come to one instruction which names a thread, a mutex, a condition or a semaphore by a
+//! number.
 
 use super::asm::{Asm, Code};
 use super::random::Random;
 use crate::machine::Op;
 
 /// The instructions. Wait comes more often, since it has two numbers.
-const NAMING: [(usize, Op); 7] = [
+const NAMING: [(usize, Op); 9] = [
     (2, Op::Join),
     (2, Op::Finalize),
     (2, Op::Lock),
@@ -13,6 +14,8 @@ const NAMING: [(usize, Op); 7] = [
     (2, Op::Signal),
     (2, Op::Broadcast),
     (6, Op::Wait),
+    (2, Op::Up),
+    (2, Op::Down),
 ];
 
 /// Makes a few of each kind, mostly not as many of one as of another, so that a look into the
@@ -20,13 +23,19 @@ const NAMING: [(usize, Op); 7] = [
 pub fn numbers(r: &mut Random) -> Code {
     let mut a = Asm::new();
     let (point, end) = (a.label(), a.label());
-    let (mut threads, mutexes, conditions) = (r.range(1, 4), r.range(0, 4), r.range(0, 4));
+    let (mut threads, mutexes) = (r.range(1, 4), r.range(0, 4));
+    let (conditions, semaphores) = (r.range(0, 4), r.range(0, 4));
     for _ in 0..mutexes {
         a.op(Op::Newmutex);
         a.op(Op::Pop);
     }
     for _ in 0..conditions {
         a.op(Op::Newcond);
+        a.op(Op::Pop);
+    }
+    for _ in 0..semaphores {
+        a.number(r.pick(&[0, 1, 2, i32::MAX]));
+        a.op(Op::Newsema);
         a.op(Op::Pop);
     }
     for id in 1..threads {
@@ -52,6 +61,7 @@ pub fn numbers(r: &mut Random) -> Code {
         Op::Join | Op::Finalize => vec![beside(r, threads)],
         Op::Lock | Op::Unlock => vec![beside(r, mutexes)],
         Op::Signal | Op::Broadcast => vec![beside(r, conditions)],
+        Op::Up | Op::Down => vec![beside(r, semaphores)],
         _ => vec![beside(r, mutexes), beside(r, conditions)],
     };
     // One cell too few: then no number is looked at. A thread starts with three.

@@ -1,6 +1,7 @@
 //! Random programs with a structure: statements in blocks, loops, functions, threads, mutexes that
-//! are locked and unlocked in pairs, conditions with a flag each. Every statement leaves the stack
-//! as high as it found it, so most of these cards run to their end.
+//! are locked and unlocked in pairs, semaphores that are used the same way or count, conditions with
+//! a flag each. Every statement leaves the stack as high as it found it, so most of these cards run
+//! to their end.
 
 use super::asm::{Asm, Code, Label};
 use super::random::Random;
@@ -9,13 +10,14 @@ use crate::machine::{Op, LIMIT};
 /// Where a statement stands.
 #[derive(Clone)]
 struct Place {
-    /// Mutexes (their places in `mutexes`) that the thread holds here.
+    /// What the thread holds here: mutexes (their places in `mutexes`) and guards (their places
+    /// behind the mutexes).
     held: Vec<usize>,
     /// How deep in blocks.
     depth: usize,
     /// How deep in loops.
     loops: usize,
-    /// In a function that is only called, and does nothing with mutexes and conditions.
+    /// In a function that is only called, and does nothing with mutexes, semaphores and conditions.
     pure: bool,
 }
 
@@ -27,6 +29,10 @@ struct Program<'r> {
     r: &'r mut Random,
     a: Asm,
     mutexes: Vec<i32>,
+    /// Semaphores used as locks.
+    guards: Vec<i32>,
+    /// Semaphores that any thread raises and lowers.
+    counters: Vec<i32>,
     conditions: Vec<i32>,
     /// A flag for each condition: those who wait go on when it is set.
     flags: Vec<i32>,
@@ -50,6 +56,11 @@ pub fn program(r: &mut Random) -> Code {
     let functions = (0..r.range(1, 3)).map(|_| a.label()).collect();
     let recursive = a.label();
     let mutexes = (0..r.range(1, 4)).map(|_| a.mutex()).collect();
+    let guards = (0..r.range(0, 2)).map(|_| a.semaphore(1)).collect();
+    let starts = [0, 0, 1, 2, 8_388_607, i32::MAX - 1000];
+    let counters = (0..r.range(0, 2))
+        .map(|_| a.semaphore(r.pick(&starts)))
+        .collect();
     let conditions: Vec<i32> = (0..r.range(1, 3)).map(|_| a.condition()).collect();
     let flags = a.cells(conditions.len());
     let variables = a.cells(3);
@@ -58,6 +69,8 @@ pub fn program(r: &mut Random) -> Code {
         r,
         a,
         mutexes,
+        guards,
+        counters,
         conditions,
         flags,
         threads,
@@ -90,7 +103,13 @@ impl Program<'_> {
             self.a.yields(self.r, 1);
         }
         self.block(&top, 4);
-        // Those who still wait for a condition are let go.
+        // Those who still wait for a counter or a condition are let go.
+        if self.r.percent(85) {
+            for &counter in &self.counters {
+                let times = self.r.range(5, 20);
+                self.a.repeat(times, 1, |a| a.up(counter));
+            }
+        }
         if self.r.percent(85) {
             for c in 0..self.conditions.len() {
                 let mutex = self.mutex_of(c);
@@ -179,7 +198,7 @@ impl Program<'_> {
             ..place.clone()
         };
         let deep = place.depth >= 3;
-        match self.r.below(100) {
+        match self.r.below(106) {
             0..=9 => {
                 self.expression(2);
                 self.a.log();
@@ -270,6 +289,7 @@ impl Program<'_> {
                 self.a.op(Op::Mark);
                 self.a.log();
             }
+            100..=105 if !place.pure && !self.counters.is_empty() => self.counting(place),
             _ => {
                 self.expression(3);
                 self.a.op(Op::Dup);
@@ -279,9 +299,9 @@ impl Program<'_> {
         }
     }
 
-    /// A block with a mutex held.
+    /// A block with a mutex or a guard held.
     fn locked(&mut self, place: &Place) {
-        let m = self.r.below(self.mutexes.len());
+        let m = self.r.below(self.mutexes.len() + self.guards.len());
         let free = match place.held.last() {
             Some(&last) if self.ordered => m > last,
             _ => !place.held.contains(&m),
@@ -296,8 +316,11 @@ impl Program<'_> {
             ..place.clone()
         };
         inside.held.push(m);
-        let cell = self.mutexes[m];
-        self.a.lock(cell);
+        let guard = m.checked_sub(self.mutexes.len());
+        match guard {
+            Some(guard) => self.a.down(self.guards[guard]),
+            None => self.a.lock(self.mutexes[m]),
+        }
         self.block(&inside, 3);
         // Now and then the thread may leave in the middle of its locked part.
         if self.r.percent(2) {
@@ -305,7 +328,21 @@ impl Program<'_> {
             let r = &mut *self.r;
             self.a.if_top(|a| a.end_with_log(r));
         }
-        self.a.unlock(cell);
+        match guard {
+            Some(guard) => self.a.up(self.guards[guard]),
+            None => self.a.unlock(self.mutexes[m]),
+        }
+    }
+
+    /// Raises a counter, or lowers it, mostly with nothing held.
+    fn counting(&mut self, place: &Place) {
+        let counter = self.r.pick(&self.counters);
+        let lowers = if place.held.is_empty() { 50 } else { 5 };
+        if self.r.percent(lowers) {
+            self.a.down(counter);
+        } else {
+            self.a.up(counter);
+        }
     }
 
     /// A call of a function, or now and then of a thread body.

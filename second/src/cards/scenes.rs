@@ -5,7 +5,7 @@ use super::asm::{Asm, Code, Label, LOG};
 use super::random::Random;
 use crate::machine::Op;
 
-type Scene = fn(&mut Random) -> Code;
+pub type Scene = fn(&mut Random) -> Code;
 
 /// All plays, each as often as its weight says.
 pub const SCENES: [(usize, Scene); 11] = [
@@ -432,11 +432,18 @@ fn joiners(r: &mut Random) -> Code {
     a.finish()
 }
 
-/// Philosophers around a table, each with a left and a right fork. In some orders all are stuck.
+/// Philosophers around a table, each with a left and a right fork, which are mutexes or semaphores.
+/// In some orders all are stuck.
 fn philosophers(r: &mut Random) -> Code {
     let mut a = Asm::new();
     let seats = r.range(2, 6);
-    let forks: Vec<i32> = (0..seats).map(|_| a.mutex()).collect();
+    let (take, lay_down) = r.pick(&[(Op::Lock, Op::Unlock), (Op::Down, Op::Up)]);
+    let forks: Vec<i32> = (0..seats)
+        .map(|_| match take {
+            Op::Lock => a.mutex(),
+            _ => a.semaphore(1),
+        })
+        .collect();
     let first = forks[0];
     let entry = a.label();
     let mut threads = Vec::new();
@@ -450,7 +457,7 @@ fn philosophers(r: &mut Random) -> Code {
     a.end_with_log(r);
     a.place(entry);
     a.opk(Op::Alloc, 3);
-    // Cells 1 and 2 of the frame: the mutexes on the left and on the right.
+    // Cells 1 and 2 of the frame: the forks on the left and on the right.
     for k in [1, 2] {
         a.opk(Op::Loadr, -2);
         a.constant(k - 1);
@@ -477,14 +484,14 @@ fn philosophers(r: &mut Random) -> Code {
     a.repeat(r.range(1, 3), 3, |a| {
         for k in [1, 2] {
             a.opk(Op::Loadr, k);
-            a.op(Op::Lock);
+            a.op(take);
             a.yields(r, 1);
         }
         a.log_local(-2);
         for k in [2, 1] {
             a.yields(r, 1);
             a.opk(Op::Loadr, k);
-            a.op(Op::Unlock);
+            a.op(lay_down);
         }
     });
     a.opk(Op::Loadr, -2);
@@ -672,35 +679,39 @@ fn locked_part(a: &mut Asm, r: &mut Random, m: i32, work: Label) {
     }
 }
 
-/// Threads that lock, unlock, wait and wake as it comes, with no discipline at all.
+/// Threads that lock, unlock, wait, wake, raise and lower as it comes, with no discipline at all.
 fn lawless(r: &mut Random) -> Code {
     let mut a = Asm::new();
     let mutexes: Vec<i32> = (0..r.range(1, 2)).map(|_| a.mutex()).collect();
     let conditions: Vec<i32> = (0..r.range(1, 2)).map(|_| a.condition()).collect();
+    let semaphores: Vec<i32> = (0..r.range(1, 2))
+        .map(|_| a.semaphore(r.range(0, 2)))
+        .collect();
+    let objects = [mutexes, conditions, semaphores];
     let entries: Vec<_> = (0..r.range(1, 3)).map(|_| a.label()).collect();
     let mut threads = Vec::new();
     for id in 1..=r.range(2, 4) {
         let entry = r.pick(&entries);
         threads.push(a.fork(entry, id));
     }
-    lawless_acts(&mut a, r, &mutexes, &conditions);
+    lawless_acts(&mut a, r, &objects);
     for cell in threads {
         a.collect(cell);
     }
     a.end_with_log(r);
     for entry in entries {
         a.place(entry);
-        lawless_acts(&mut a, r, &mutexes, &conditions);
+        lawless_acts(&mut a, r, &objects);
         a.opk(Op::Loadr, -2);
         a.end_thread(r);
     }
     a.finish()
 }
 
-fn lawless_acts(a: &mut Asm, r: &mut Random, mutexes: &[i32], conditions: &[i32]) {
+fn lawless_acts(a: &mut Asm, r: &mut Random, objects: &[Vec<i32>; 3]) {
     for _ in 0..r.range(2, 8) {
-        let (m, c) = (r.pick(mutexes), r.pick(conditions));
-        match r.below(12) {
+        let [m, c, s] = [0, 1, 2].map(|kind| r.pick(&objects[kind]));
+        match r.below(16) {
             0..=2 => a.lock(m),
             3 => a.unlock(m),
             4 => {
@@ -722,6 +733,8 @@ fn lawless_acts(a: &mut Asm, r: &mut Random, mutexes: &[i32], conditions: &[i32]
             7 => a.signal(c),
             8 => a.broadcast(c),
             9 => a.log_local(-2),
+            10 | 11 => a.up(s),
+            12 | 13 => a.down(s),
             _ => a.op(Op::Yield),
         }
     }

@@ -14,7 +14,9 @@ pub fn soup(r: &mut Random, n: usize) -> Code {
     for _ in 0..r.range(0, 3) {
         list.push((Op::Newmutex, 0));
         list.push((Op::Newcond, 0));
-        height += 2;
+        list.push((Op::Loadc, r.range(0, 2)));
+        list.push((Op::Newsema, 0));
+        height += 3;
     }
     while list.len() < n {
         if height < 2 || (height < 60 && r.percent(25)) {
@@ -80,13 +82,17 @@ pub fn soup(r: &mut Random, n: usize) -> Code {
             | Op::Lock
             | Op::Unlock
             | Op::Signal
-            | Op::Broadcast => {
+            | Op::Broadcast
+            | Op::Newsema
+            | Op::Up
+            | Op::Down => {
                 if r.percent(80) {
                     list.push((Op::Loadc, r.range(0, 2)));
                     height += 1;
                 }
                 list.push((op, 0));
-                let pops = matches!(op, Op::Lock | Op::Unlock | Op::Signal | Op::Broadcast);
+                let keeps = [Op::Load, Op::New, Op::Join, Op::Finalize, Op::Newsema];
+                let pops = !keeps.contains(&op);
                 height -= pops as i32;
             }
             Op::Wait => {
