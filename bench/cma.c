@@ -4,12 +4,17 @@
 
 #include "engine.h"
 
+/* Where the loop starts is worth up to a third of its speed: at a multiple of 64 bytes it is
+   fastest. */
+#pragma GCC optimize("align-loops=64")
+
 enum {
     SHARED = 4096,
     STACK = 128,
     THREADS = 32,
     MUTEXES = 64,
     CONDS = 64,
+    SEMAS = 32,
     LIMIT = 4096,
     NONE = -1
 };
@@ -19,7 +24,7 @@ enum {
     OP_ADD, OP_SUB, OP_MUL, OP_DIV, OP_MOD, OP_NEG, OP_EQ, OP_NEQ, OP_LESS, OP_LEQ, OP_NOT,
     OP_JUMP, OP_JUMPZ, OP_MARK, OP_CALL, OP_RETURN, OP_NEW, OP_CREATE, OP_YIELD, OP_EXIT,
     OP_JOIN, OP_FINALIZE, OP_NEWMUTEX, OP_LOCK, OP_UNLOCK, OP_NEWCOND, OP_WAIT, OP_SIGNAL,
-    OP_BROADCAST
+    OP_BROADCAST, OP_NEWSEMA, OP_UP, OP_DOWN
 };
 
 /* A queue of threads, linked through the threads' `next`: each is in one queue at most. */
@@ -40,13 +45,19 @@ struct mutex {
     struct queue waiters;
 };
 
+struct sema {
+    int32_t count;
+    struct queue waiters;
+};
+
 struct machine {
     int32_t store[SHARED + THREADS * STACK];
     struct thread threads[THREADS];
     struct mutex mutexes[MUTEXES];
     struct queue conds[CONDS];
+    struct sema semas[SEMAS];
     struct queue ready;
-    int made_threads, made_mutexes, made_conds;
+    int made_threads, made_mutexes, made_conds, made_semas;
     int live; /* threads made and not ended */
     int free; /* the next free shared cell */
 };
@@ -130,6 +141,8 @@ static void set_up(struct machine *m, int globals)
         m->mutexes[i].owner = m->mutexes[i].waiters.head = NONE;
     for (i = 0; i < CONDS; i++)
         m->conds[i].head = NONE;
+    for (i = 0; i < SEMAS; i++)
+        m->semas[i].waiters.head = NONE;
     new_thread(m, 0, 0);
 }
 
@@ -181,7 +194,7 @@ static int read_card(const uint8_t *image, size_t len, int *globals, int *count,
     for (i = 0; i < n; i++) {
         uint32_t word = word_at(image + 9 + 4 * i);
         *place = 9 + 4 * i;
-        if (word >> 24 > OP_BROADCAST)
+        if (word >> 24 > OP_DOWN)
             return 4;
         if (!operand_ok(word >> 24, operand(word), n))
             return 5;
@@ -215,6 +228,7 @@ static int read_card(const uint8_t *image, size_t len, int *globals, int *count,
 #define MUTEX(value) NUMBER(value, m->made_mutexes, 27)
 #define CONDITION(value) NUMBER(value, m->made_conds, 32)
 #define THREAD(value) NUMBER(value, m->made_threads, 33)
+#define SEMA(value) NUMBER(value, m->made_semas, 34)
 #define COMPARE(operator)                \
     do {                                 \
         NEED(2);                         \
@@ -431,6 +445,17 @@ int64_t cma_run(const uint8_t *image, size_t len, uint64_t steps, struct engine_
             ROOM(1);
             s[++sp] = m->made_conds == CONDS ? -1 : m->made_conds++;
             break;
+        case OP_NEWSEMA:
+            NEED(1);
+            if (s[sp] < 0)
+                FAULT(30);
+            if (m->made_semas == SEMAS) {
+                s[sp] = -1;
+            } else {
+                m->semas[m->made_semas].count = s[sp];
+                s[sp] = m->made_semas++;
+            }
+            break;
 
         case OP_YIELD:
             enqueue(m, &m->ready, t);
@@ -497,6 +522,30 @@ int64_t cma_run(const uint8_t *image, size_t len, uint64_t steps, struct engine_
             CONDITION(s[sp]);
             append(m, &m->ready, &m->conds[s[sp--]]);
             break;
+
+        case OP_UP: {
+            struct sema *sema;
+            NEED(1);
+            SEMA(s[sp]);
+            sema = &m->semas[s[sp]];
+            if (sema->count == INT32_MAX)
+                FAULT(24);
+            sp--;
+            if (++sema->count <= 0) /* it was negative, so somebody waits */
+                enqueue(m, &m->ready, dequeue(m, &sema->waiters));
+            break;
+        }
+        case OP_DOWN: {
+            struct sema *sema;
+            NEED(1);
+            SEMA(s[sp]);
+            sema = &m->semas[s[sp--]];
+            if (--sema->count < 0) {
+                enqueue(m, &sema->waiters, t);
+                goto leave;
+            }
+            break;
+        }
 
         ending: /* the thread ends with the value, unless it owns a mutex */
             if (owns_any(m, t))
