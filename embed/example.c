@@ -1,5 +1,5 @@
 /* A machine inside a C program: makes a card, sets it up, runs it in slices of 100 steps, prints the queues after each, lists its
- * text and imports that again, and has a damaged card refused. */
+ * text and imports that again, looks at a semaphore for which somebody waits, and has a damaged card refused. */
 #include <inttypes.h>
 #include <stdio.h>
 #include <string.h>
@@ -10,7 +10,7 @@
 #define WORD(opcode, operand) ((uint32_t)(opcode) << 24 | ((uint32_t)(operand) & 0xffffff))
 
 enum { LOADC = 1, LOAD = 2, STORE = 3, LOADR = 4, POP = 7, DUP = 8, ADD = 9, SUB = 10, JUMP = 20, JUMPZ = 21, CREATE = 26, YIELD = 27, EXIT = 28, JOIN = 29,
-       NEWMUTEX = 31, LOCK = 32, UNLOCK = 33 };
+       NEWMUTEX = 31, LOCK = 32, UNLOCK = 33, NEWSEMA = 38, DOWN = 40 };
 
 /* Three workers each add 1 to cell 1 ten times, with a yield inside the mutex whose number is in cell 0; thread 0 waits for the last. */
 static const uint32_t WORKERS[] = {
@@ -32,6 +32,11 @@ static const uint32_t WORKERS[] = {
     WORD(EXIT, 0),
     /* 37: the sum is thread 0's result */
     WORD(LOADC, 1), WORD(LOAD, 0), WORD(EXIT, 0),
+};
+
+/* A semaphore with a starting count of 1, lowered twice. */
+static const uint32_t GATE[] = {
+    WORD(LOADC, 1), WORD(NEWSEMA, 0), WORD(DUP, 0), WORD(DOWN, 0), WORD(DOWN, 0),
 };
 
 static int32_t store[LEPRAHOON_STORE];
@@ -99,6 +104,13 @@ int main(void) {
     printf("with a byte of room too few: %" PRIu64 " at %" PRIu64 "\n", made[0], made[1]);
     leprahoon_list(image, size, 0, text, 7, made);
     printf("its header in 7 bytes: %" PRIu64 " at %" PRIu64 "\n", made[0], made[1]);
+
+    leprahoon_write(1, GATE, sizeof GATE / sizeof *GATE, again, sizeof again, made);
+    leprahoon_set_up(again, made[2], store, LEPRAHOON_STORE, tables, LEPRAHOON_TABLES, values, LEPRAHOON_VALUES, registers, report);
+    leprahoon_run(again, made[2], store, LEPRAHOON_STORE, tables, LEPRAHOON_TABLES, values, LEPRAHOON_VALUES, registers, 100, report);
+    printf("%s after %" PRIu64 " steps", STATES[report[0]], report[3]);
+    print_queue("semaphore 0", LEPRAHOON_AT_SEMAPHORE + 0);
+    printf(" count: %" PRId32 "\n", values[LEPRAHOON_COUNTS + 0]);
 
     image[4] = 2; /* another version */
     leprahoon_run(image, size, store, LEPRAHOON_STORE, tables, LEPRAHOON_TABLES, values, LEPRAHOON_VALUES, registers, 100, report);

@@ -17,21 +17,21 @@ extern "C" {
 struct Machine {
     store: [i32; 8192],
     tables: [u64; 224],
-    values: [i32; 32],
-    registers: [u64; 10],
+    values: [i32; 64],
+    registers: [u64; 11],
     report: [u64; 4],
 }
 
 impl Machine {
     fn new() -> Self {
-        Machine { store: [0; 8192], tables: [0; 224], values: [0; 32], registers: [0; 10], report: [0; 4] }
+        Machine { store: [0; 8192], tables: [0; 224], values: [0; 64], registers: [0; 11], report: [0; 4] }
     }
 
     fn set_up(&mut self, image: &[u8]) {
         unsafe {
             leprahoon_set_up(
                 image.as_ptr(), image.len() as u64, self.store.as_mut_ptr(), 8192, self.tables.as_mut_ptr(), 224,
-                self.values.as_mut_ptr(), 32, self.registers.as_mut_ptr(), self.report.as_mut_ptr(),
+                self.values.as_mut_ptr(), 64, self.registers.as_mut_ptr(), self.report.as_mut_ptr(),
             )
         }
     }
@@ -40,7 +40,7 @@ impl Machine {
         unsafe {
             leprahoon_run(
                 image.as_ptr(), image.len() as u64, self.store.as_mut_ptr(), 8192, self.tables.as_mut_ptr(), 224,
-                self.values.as_mut_ptr(), 32, self.registers.as_mut_ptr(), steps, self.report.as_mut_ptr(),
+                self.values.as_mut_ptr(), 64, self.registers.as_mut_ptr(), steps, self.report.as_mut_ptr(),
             )
         }
     }
@@ -113,6 +113,8 @@ const JOIN: u32 = 29;
 const NEWMUTEX: u32 = 31;
 const LOCK: u32 = 32;
 const UNLOCK: u32 = 33;
+const NEWSEMA: u32 = 38;
+const DOWN: u32 = 40;
 
 // An instruction as a word.
 const fn word(opcode: u32, operand: i32) -> u32 {
@@ -141,6 +143,9 @@ const WORKERS: &[u32] = &[
     word(LOADC, 1), word(LOAD, 0), word(EXIT, 0),
 ];
 
+// A semaphore with a starting count of 1, lowered twice.
+const GATE: &[u32] = &[word(LOADC, 1), word(NEWSEMA, 0), word(DUP, 0), word(DOWN, 0), word(DOWN, 0)];
+
 const STATES: [&str; 5] = ["halted", "running", "stuck", "faulted", "refused"];
 
 fn main() {
@@ -156,7 +161,7 @@ fn main() {
         steps += machine.report[3];
         println!(
             "{} after {} steps ready:{} mutex 0:{} end of 3:{} cell 1: {}",
-            STATES[machine.report[0] as usize], steps, machine.queue(3), machine.queue(4), machine.queue(132 + 3), machine.store[1]
+            STATES[machine.report[0] as usize], steps, machine.queue(3), machine.queue(4), machine.queue(164 + 3), machine.store[1]
         );
     }
     println!("thread 0 ended with {}", machine.values[0]);
@@ -172,6 +177,13 @@ fn main() {
     }
     if let Err((number, place)) = list(&image, 0, &mut again[..7]) {
         println!("its header in 7 bytes: {number} at {place}");
+    }
+
+    if let Ok(gate) = write(1, GATE) {
+        machine.set_up(&gate);
+        machine.run(&gate, 100);
+        let (state, steps) = (STATES[machine.report[0] as usize], machine.report[3]);
+        println!("{state} after {steps} steps semaphore 0:{} count: {}", machine.queue(132), machine.values[32]);
     }
 
     image[4] = 2; // another version

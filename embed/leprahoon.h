@@ -20,8 +20,8 @@ extern "C" {
 enum {
     LEPRAHOON_STORE = 8192,    /* int32_t: 4,096 shared cells, then 128 for each thread's stack */
     LEPRAHOON_TABLES = 224,    /* uint64_t */
-    LEPRAHOON_VALUES = 32,     /* int32_t: what each thread ended with */
-    LEPRAHOON_REGISTERS = 10,  /* uint64_t */
+    LEPRAHOON_VALUES = 64,     /* int32_t: what each thread ended with, then the count of each semaphore */
+    LEPRAHOON_REGISTERS = 11,  /* uint64_t */
     LEPRAHOON_REPORT = 4,      /* uint64_t */
     LEPRAHOON_LINE = 90,       /* uint8_t: room for every runner's line */
     LEPRAHOON_IMAGE = 16393,   /* uint8_t: the longest card image */
@@ -39,7 +39,8 @@ enum {
     LEPRAHOON_FREE,       /* the next free shared cell */
     LEPRAHOON_THREADS,    /* how many were made */
     LEPRAHOON_MUTEXES,
-    LEPRAHOON_CONDITIONS
+    LEPRAHOON_CONDITIONS,
+    LEPRAHOON_SEMAPHORES
 };
 
 /* The states: report[0]. */
@@ -47,7 +48,7 @@ enum {
     LEPRAHOON_HALTED,
     LEPRAHOON_RUNNING,
     LEPRAHOON_STUCK,
-    LEPRAHOON_FAULTED,    /* report[1] the fault's number, 20 to 33 (docs/NUMBERS.md), report[2] the PC */
+    LEPRAHOON_FAULTED,    /* report[1] the fault's number, 20 to 34 (docs/NUMBERS.md), report[2] the PC */
     LEPRAHOON_REFUSED     /* report[1] the number, 1 to 7, report[2] the place; nothing was altered but the report (and, by set_up, the
                              registers, which are then all 0) */
 };
@@ -71,22 +72,29 @@ enum {
     LEPRAHOON_READY = 3,
     LEPRAHOON_AT_MUTEX = 4,      /* plus the mutex's number */
     LEPRAHOON_AT_CONDITION = 68, /* plus the condition's number */
-    LEPRAHOON_AT_END = 132       /* plus the number of the awaited thread */
+    LEPRAHOON_AT_SEMAPHORE = 132, /* plus the semaphore's number */
+    LEPRAHOON_AT_END = 164       /* plus the number of the awaited thread */
+};
+
+/* The values: where the counts of the semaphores begin. */
+enum {
+    LEPRAHOON_RESULTS = 0,
+    LEPRAHOON_COUNTS = 32
 };
 
 /* Sets up a machine for a card, whatever the memory held. */
 void leprahoon_set_up(const uint8_t *image, uint64_t image_length, int32_t *store, uint64_t store_length, uint64_t *tables,
-                      uint64_t tables_length, int32_t *values, uint64_t values_length, uint64_t *registers /* 10 */,
+                      uint64_t tables_length, int32_t *values, uint64_t values_length, uint64_t *registers /* 11 */,
                       uint64_t *report /* 4: state, number, place, count */);
 
 /* One step. */
 void leprahoon_step(const uint8_t *image, uint64_t image_length, int32_t *store, uint64_t store_length, uint64_t *tables,
-                    uint64_t tables_length, int32_t *values, uint64_t values_length, uint64_t *registers /* 10 */,
+                    uint64_t tables_length, int32_t *values, uint64_t values_length, uint64_t *registers /* 11 */,
                     uint64_t *report /* 4 */);
 
 /* At most so many steps: the machine may stop sooner. report[3] is the number of instructions carried out. */
 void leprahoon_run(const uint8_t *image, uint64_t image_length, int32_t *store, uint64_t store_length, uint64_t *tables,
-                   uint64_t tables_length, int32_t *values, uint64_t values_length, uint64_t *registers /* 10 */, uint64_t steps,
+                   uint64_t tables_length, int32_t *values, uint64_t values_length, uint64_t *registers /* 11 */, uint64_t steps,
                    uint64_t *report /* 4 */);
 
 /* Judges a card: report is the number and the place of its refusal and 0, or 0, 0 and its global cells. The code part of an accepted
