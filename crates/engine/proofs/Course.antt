@@ -98,7 +98,7 @@ module _ (size : ℕ) (code : List ℕ) (n : ℕ) (card : Carded code n) (store 
       let s = stateAt size store tables values r in
       held-sound size (boxed store′ tables′ values′ q) (bookOf book (carried size (wordsOf code) s .trace))
       (record {
-        right = rw is (carried-right size (wordsOf code) (words-of code n card) s book before (eq-eqb _ _ runs));
+        right = rw is (carried-right size (wordsOf code) (words-of code n card) s book before (eq-eqb _ _ runs) .right);
         sized = same ∙ sound-held size (boxed store tables values r) h .sized;
       })
 

@@ -12,7 +12,7 @@ use lib.ListN.{length, drop, length-append, length-drop}
 use lib.Seq.{drop-append-le, drop-drop}
 use borrow.Author.Tests.{eq-eqb, ne-eqb, lt-ltb}
 use Rattle.machine.specs.Book.{Book, Entry, Event, Permits, fed, namesLeft, locks, unlocks, creates, ends, withPermits}
-use Rattle.machine.specs.Demand.{holderOf}
+use Rattle.machine.specs.Fair.{holderOf}
 use Rattle.machine.specs.Lists.{count}
 use Rattle.machine.specs.Size.{mutexLimit}
 use Rattle.machine.specs.Tables.{Tables, atMutex, ended, lives, owned, ownerOf, placeOf, queue, ready, sent}

@@ -7,7 +7,8 @@ use native.Mathlib.Omega.{arith}
 use lib.ListN.{length, length-append}
 use lib.Seq.{drop-append-add, drop-at, drop-nil, take-append-add, take-at, take-nil}
 use Rattle.machine.specs.Calls.{Box, Called, cardOf, countOf, runCall, stateOf}
-use Rattle.machine.specs.Demand.{Call, Each, Fitting, callOf, imageOf, played, runOn, stepOn}
+use Rattle.machine.specs.Lists.{Each}
+use Rattle.machine.specs.Played.{Call, Fitting, callOf, imageOf, played, runOn, stepOn}
 use Rattle.machine.specs.Laws.{then}
 use Rattle.machine.specs.Order.{Cut}
 use Rattle.machine.specs.Registers.{isRunning}

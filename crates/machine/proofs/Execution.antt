@@ -400,12 +400,13 @@ module _ (size n : ℕ) (s : State) (book : Book) (y : Runs size s book) (short 
       (λ k. rw e (lock-blocked size _ book popped-runs m made (eqb-false _ _ k)))))
 
   -- 28 is not given: the mutex is owned by the running thread
-  ends-owns : (P : State → Type 0) (m : ℕ) (o : Outcome) → (ownerOf (s .tables) m ≢ size → Ends P o) → Ends P (owns size n s m o)
+  pub ends-owns : (P : State → Type 0) (m : ℕ) (o : Outcome) → (ownerOf (s .tables) m ≡ s .regs .thread → Ends P o) → Ends P (owns size n s m o)
   unfolding owns
-  ends-owns P m o f =
-      ends-cond P (eqb (ownerOf (s .tables) m) (s .regs .thread)) o (fault 28)
-      (λ e. f (λ none. y .some (sym (eqb-true _ _ e) ∙ none)))
-      (λ e. refl)
+  ends-owns P m o f = ends-cond P _ o (fault 28) (λ e. f (eqb-true _ _ e)) (λ e. refl)
+
+  -- .. and so by some thread
+  owned : (m : ℕ) → ownerOf (s .tables) m ≡ s .regs .thread → ownerOf (s .tables) m ≢ size
+  owned m mine none = y .some (sym mine ∙ none)
 
   exec-unlock : Done instr.unlock
   unfolding exec eventOf
@@ -415,7 +416,7 @@ module _ (size n : ℕ) (s : State) (book : Book) (y : Runs size s book) (short 
       ends-within _ _ _ _ _ refl
       (λ m e made.
       ends-owns _ m _
-      (λ held. rw e (changed _ _ _ _ _ _ _ (fed-unlocks book (s .regs .thread) m) refl (omega (arith, room)) (gives (y .steady .both) m (s .regs .thread) made held)))))
+      (λ mine. rw e (changed _ _ _ _ _ _ _ (fed-unlocks book (s .regs .thread) m) refl (omega (arith, room)) (gives (y .steady .both) m (s .regs .thread) made (owned m mine))))))
 
   exec-wait : Done instr.wait
   unfolding exec eventOf
@@ -425,7 +426,7 @@ module _ (size n : ℕ) (s : State) (book : Book) (y : Runs size s book) (short 
       ends-within _ _ _ _ _ refl
       (λ c e made-c.
       ends-within _ _ _ _ _ refl
-      (λ m i made-m. ends-owns _ m _ (λ held. rw i (wait-right size _ book popped-runs c m made-c made-m held)))))
+      (λ m i made-m. ends-owns _ m _ (λ mine. rw i (wait-right size _ book popped-runs c m made-c made-m (owned m mine))))))
 
   -- a condition that was made is one of the box
   within-limit : (c : ℕ) → c < s .regs .conditions → c < conditionLimit size

@@ -8,7 +8,7 @@ use native.Mathlib.Omega.{arith}
 use lib.ListN.{List·getD-eq-default}
 use borrow.Author.Tests.{eq-eqb, ne-eqb, lt-ltb, le-ltb}
 use Rattle.machine.specs.Book.{Book}
-use Rattle.machine.specs.Demand.{Fair, placesOf, runnerOf, waitsIn}
+use Rattle.machine.specs.Fair.{Fair, placesOf, runnerOf, waitsIn}
 use Rattle.machine.specs.Lists.{count}
 use Rattle.machine.specs.Size.{mutexLimit}
 use Rattle.machine.specs.State.{State}

@@ -19,7 +19,7 @@ use Rattle.machine.specs.Book.{Book, Permits, bookOf}
 use Rattle.machine.specs.Calls.{Box, Called, accepted, answerOf, boxOf, cardOf, ranOf, refused, runCall, setUp, stateOf, stepCall, storeFits}
 use Rattle.machine.specs.Registers.{faulted, running, stuck}
 use Rattle.machine.specs.declared.answers.Answer.the-variants.{Faulted, Halted, Refused, Running, Stuck}
-use Rattle.machine.specs.Demand.{Call, callOf, imageOf, stepOn, runOn}
+use Rattle.machine.specs.Played.{Call, callOf, imageOf, stepOn, runOn}
 use Rattle.machine.specs.Plain.{Formed}
 use Rattle.machine.specs.Size.{semaphoreLimit, shared, storeSize, tablesSize, valuesSize}
 use Rattle.machine.specs.State.{State, semaphoreCount, start}
@@ -30,6 +30,7 @@ use Rattle.machine.proofs.Every.{true-and}
 use Rattle.machine.proofs.Permits.{short}
 use Rattle.machine.proofs.Plain.{tested}
 use Rattle.machine.proofs.Queues.{queue-short}
+use Rattle.machine.proofs.Releases.{Lawful}
 use Rattle.machine.proofs.Slices.{length-slice, tables-slice}
 use Rattle.machine.proofs.Steady.{Right}
 use Rattle.machine.proofs.Steps.{After, run-right, step-right}
@@ -136,12 +137,13 @@ refused-call size (runOn image m) box number place e = rw e
 -- what a call with the card leaves
 pub record Went (size : ℕ) (book : Book) (called : Called) : Type 0 where
   pub box : Held size (called .box) (bookOf book (called .trace))
+  pub lawful : Lawful book (called .trace)
   pub answer : (number place : ℕ) → called .answer ≢ Refused number place
 
 went : (size : ℕ) (box : Box) (book : Book) (ran : Ran) → Held size box book → After size book ran → Went size book (accepted size box ran)
 went size box book ran h r =
     rw (goes-on size box book ran h)
-    (record { box = held size (ran .state) (bookOf book (ran .trace)) r; answer = answers size (ran .state) })
+    (record { box = held size (ran .state) (bookOf book (ran .trace)) (r .right); lawful = r .lawful; answer = answers size (ran .state) })
 
 pub card-call : (size : ℕ) (call : Call) (box : Box) (book : Book) (cells : ℕ) → readOf (imageOf call) ≡ reading.Accepted cells → Held size box book →
     Went size book (callOf size call box)

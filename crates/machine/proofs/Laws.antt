@@ -14,7 +14,8 @@ use Rattle.card.specs.declared.reader.Reading.{Reading}
 use Rattle.card.specs.declared.reader.Reading.the-variants as reading
 use Rattle.machine.specs.Book.{Book, Entry, blank, bookOf}
 use Rattle.machine.specs.Calls.{Box, cardOf, ranOf, refused, runCall, setUp, setUpOf, stateOf, storeFits}
-use Rattle.machine.specs.Demand.{Call, callOf, holderOf, imageOf, runOn, stepOn}
+use Rattle.machine.specs.Fair.{holderOf}
+use Rattle.machine.specs.Played.{Call, callOf, imageOf, runOn, stepOn}
 use Rattle.machine.specs.Execution.{Outcome, done, exec, fault}
 use Rattle.machine.specs.Instructions.{Instruction, decoded}
 use Rattle.machine.specs.Laws.{FaultKeeps, FaultNumbers, KeepsFormed, RefusedKeeps, RefusedSetUp, SetUpForms, Sound}
@@ -199,5 +200,5 @@ pub fault-numbers : FaultNumbers
 fault-numbers size image cells box number r h runs e =
     let s : State = stateOf size box in
     let after = carried-right size (cardOf image) (card-of image cells r) s (bookFor size box) (sound-held size box h .right) runs in
-    let here : Right size (withRegs s (stopped (s .regs) number)) (bookOf (bookFor size box) []) = rw e at after in
+    let here : Right size (withRegs s (stopped (s .regs) number)) (bookOf (bookFor size box) []) = rw e at (after .right) in
     here .number .listed refl

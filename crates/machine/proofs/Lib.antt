@@ -10,12 +10,13 @@ pub mod Steady
 pub mod Outcomes
 pub mod Targets
 pub mod Execution
+pub mod Releases
 pub mod Steps
 pub mod Slices
 pub mod Start
 pub mod Held
 pub mod Fairness
-pub mod Demand
+pub mod Played
 pub mod Runs
 pub mod Sessions
 pub mod Equations
@@ -25,6 +26,7 @@ pub mod NotEmpty
 pub mod Traces
 pub mod Cuts
 pub mod Order
+pub mod Demand
 pub mod Permitted
 pub mod Semaphores
 pub mod Mistakes

@@ -6,7 +6,7 @@ use Rattle.card.specs.Image.{codeOf, readCode, readOf}
 use Rattle.writer.specs.Writing.{wordsBytes}
 use Rattle.machine.specs.Book.{eventOf}
 use Rattle.machine.specs.Calls.{runCall, setUp}
-use Rattle.machine.specs.Demand.{played}
+use Rattle.machine.specs.Played.{played}
 use Rattle.machine.specs.Execution.{exec, fits, frame, needs, opening, owns, rooms, within}
 use Rattle.machine.specs.Instructions.{instructionOf}
 use Rattle.machine.specs.Laws.{NotEmpty}

@@ -1,26 +1,28 @@
--- Threads get a mutex in the order in which they executed lock on it: the laws of specs/Order.antt. Assumes nothing.
-use Prim.Native.Nat.{ℕ, suc, _<_, _≤_}
+-- Threads get a mutex in the order in which they executed lock on it, and only the one who has it releases it: the laws of specs/Order.antt.
+-- Assumes nothing.
+use Prim.Native.Nat.{ℕ, zero, suc, _<_, _≤_}
 use mathlib.Core.Path.{_≡_, refl, sym, ap, _∙_}
 use mathlib.Core.List.{List, [], _∷_, _++_}
 use mathlib.Core.Logic.{_≢_}
 use native.Mathlib.Omega.{arith}
-use lib.Dec.{lit≤}
-use lib.ListN.{length, drop, getD, length-drop}
+use lib.ListN.{length, drop, getD, length-drop, take}
 use lib.Seq.{drop-cons, take-all, take-length}
-use Rattle.card.proofs.Header.{accepts}
 use Rattle.card.specs.Image.{readOf}
 use Rattle.card.specs.declared.reader.Reading.the-variants as reading
-use Rattle.machine.specs.Book.{Book, Entry, blank, bookOf, namesLeft}
+use Rattle.machine.specs.Book.{Book, Entry, blank, bookOf, fed, namesLeft}
 use Rattle.machine.specs.Calls.{Box, setUp, stateOf}
-use Rattle.machine.specs.Demand.{Call, Each, Fair, Fitting, holderOf, played}
-use Rattle.machine.specs.Order.{FirstLeft, Order3, OrderFor, Owners, Served, bookAt}
-use Rattle.machine.specs.Size.{full, mutexLimit, shared, storeSize, tablesSize, valuesSize}
+use Rattle.machine.specs.Fair.{Fair, holderOf}
+use Rattle.machine.specs.Lists.{Each}
+use Rattle.machine.specs.Played.{Call, Fitting, played}
+use Rattle.machine.specs.Order.{Exclusive, FirstLeft, Ordered, Owners, Rightful, bookAt, entryAt}
+use Rattle.machine.specs.Size.{mutexLimit, shared, storeSize, tablesSize, valuesSize}
 use Rattle.machine.specs.Tables.{Tables, atMutex, ownerOf, queue}
 use Rattle.machine.proofs.Booked.{free, held}
 use Rattle.machine.proofs.Cuts.{cut}
-use Rattle.machine.proofs.Demand.{demand-for}
 use Rattle.machine.proofs.Lists.{less-or-not, same-or-not}
-use Rattle.machine.proofs.Traces.{executed, named, no-sooner, nobody-skipped, none-completes, numbered, once, one-holds, ordered}
+use Rattle.machine.proofs.Played.{led-for}
+use Rattle.machine.proofs.Releases.{Lawful}
+use Rattle.machine.proofs.Traces.{executed, named, no-sooner, nobody-skipped, none-completes, numbered, once, ordered, still-has}
 
 -- the first left is the owner's
 module _ (size : ℕ) (box : Box) (book : Book) (fair : Fair size (stateOf size box) book) where
@@ -47,7 +49,7 @@ module _ (size : ℕ) (box : Box) (book : Book) (fair : Fair size (stateOf size 
       fair .in-order m below ∙ ap (λ (l : List ℕ). l ++ queue tables (atMutex m)) (held size tables m (ownerOf tables m) refl e) in
       (refl, omega (arith, ap length line, length-drop (book .releases m) (book .names m)))
 
-  owners : Owners size (stateOf size box .tables) book
+  pub owners : Owners size (stateOf size box .tables) book
   owners = record { first-owns = first-owns; owner-first = owner-first }
 
 -- a law of every point of a trace that holds up to its end
@@ -56,6 +58,13 @@ to-the-end trace P h j =
     less-or-not j (length trace)
     (λ k. h j (omega arith))
     (λ k. rw (take-all j trace k, ← take-length trace) (h (length trace) (omega arith)))
+
+-- each release of a trace is rightful, by the book at its point
+lawful-at : (trace : List Entry) (book : Book) → Lawful book trace → (j : ℕ) → j < length trace → Rightful (bookOf book (take j trace)) (entryAt trace j)
+unfolding Lawful bookOf
+lawful-at [] book l j h = absurd (omega arith)
+lawful-at (e ∷ rest) book l zero h = l .0
+lawful-at (e ∷ rest) book l (suc j) h = lawful-at rest (fed book e) (l .1) j (omega arith)
 
 module _ (size : ℕ) (some : 1 ≤ size) (card : List ℕ) (cells : ℕ) (lent : Box) (calls : List Call) (e : readOf card ≡ reading.Accepted cells)
     (fits : cells ≤ shared size) (store : length (lent .store) ≡ storeSize size) (tables : length (lent .tables) ≡ tablesSize size)
@@ -70,36 +79,25 @@ module _ (size : ℕ) (some : 1 ≤ size) (card : List ℕ) (cells : ℕ) (lent 
       to-the-end trace (λ b. b .releases m ≤ length (b .names m))
       (λ j h.
       let c = cut size card calls all (setUp size card lent .box) j h in
-      let claim = demand-for size some card cells lent (c .first) e fits store tables values (c .first-fits) in
-      rw (c .first-trace) at (claim .fair .counted m below))
+      let led = led-for size some card cells lent (c .first) e fits store tables values (c .first-fits) in
+      rw (c .first-trace) at (led .box .right .steady .both .booked .counted m below))
 
-  served : Served size card calls (setUp size card lent .box)
+  pub in-order : Ordered size (played size calls (setUp size card lent .box) .trace)
   unfolding trace
-  served =
-      let box : Box = setUp size card lent .box in
-      let claim = demand-for size some card cells lent calls e fits store tables values all in
+  in-order =
       record {
-        in-order =
-            record {
-              executed = executed trace;
-              numbered = numbered trace;
-              named = named trace;
-              once = once trace;
-              no-sooner = no-sooner trace;
-              ordered = ordered trace;
-              nobody-skipped = λ m k j below. nobody-skipped trace m (counted m below) k j;
-            };
-        exclusive = record { one-holds = one-holds trace; none-completes = none-completes trace };
-        owners = owners size (played size calls box .box) (bookOf blank trace) (claim .fair);
-        cut = λ j h. cut size card calls all box j h;
+        executed = executed trace;
+        numbered = numbered trace;
+        named = named trace;
+        once = once trace;
+        no-sooner = no-sooner trace;
+        ordered = ordered trace;
+        nobody-skipped = λ m k j below. nobody-skipped trace m (counted m below) k j;
       }
 
-pub order-for : (size : ℕ) → 1 ≤ size → OrderFor size
-order-for size some card cells lent calls e fits store tables values all = served size some card cells lent calls e fits store tables values all
-
--- the paper's box
-pub order3 : Order3
-order3 card cells lent calls e store tables values all =
-    let a = accepts card cells e in
-    let most : cells ≤ 4096 = rw (a .globals) at (a .sized .cells .most) in
-    order-for full (lit≤ tt) card cells lent calls e most store tables values all
+  pub exclusive : Exclusive (played size calls (setUp size card lent .box) .trace)
+  unfolding trace
+  exclusive =
+      let led = led-for size some card cells lent calls e fits store tables values all in
+      let by-holder : (j : ℕ) → j < length trace → Rightful (bookAt trace j) (entryAt trace j) = lawful-at trace blank (led .lawful) in
+      record { by-holder = by-holder; still-has = still-has trace by-holder; none-completes = none-completes trace by-holder }

@@ -15,6 +15,11 @@ abbrev pub Ends : (State → Type 0) → Outcome → Type 0
 Ends P (done u) = P u
 Ends P (fault k) = isFault k ≡ true
 
+-- what a good state is can be said more weakly
+pub ends-map : (P Q : State → Type 0) → ((u : State) → P u → Q u) → (o : Outcome) → Ends P o → Ends Q o
+ends-map P Q f (done u) e = f u e
+ends-map P Q f (fault k) e = e
+
 module _ (P : State → Type 0) where
   pub ends-cond : (b : Bool) (x y : Outcome) → (b ≡ true → Ends P x) → (b ≡ false → Ends P y) → Ends P (cond b x y)
   ends-cond true x y f g = f refl

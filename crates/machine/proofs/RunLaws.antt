@@ -27,9 +27,9 @@ use Rattle.machine.proofs.Steps.{run-right}
 
 kept : (size : ℕ) (image : List ℕ) (m : ℕ) (box : Box) → Kept size image m box
 kept size image m box cells r f w =
-    let right = run-right size (cardOf image) (card-of image cells r) (stateOf size box) (bookFor size box) (sound-held size box (record { store = f; formed = w }) .right) m in
-    let left = held size _ _ right in
-    (held-store size _ _ left, held-formed size _ _ left, read-back size _ _ right)
+    let after = run-right size (cardOf image) (card-of image cells r) (stateOf size box) (bookFor size box) (sound-held size box (record { store = f; formed = w }) .right) m in
+    let left = held size _ _ (after .right) in
+    (held-store size _ _ left, held-formed size _ _ left, read-back size _ _ (after .right))
 
 pub run-adds : RunsAdd
 run-adds size image box a b =

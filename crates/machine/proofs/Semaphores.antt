@@ -11,13 +11,14 @@ use Rattle.card.specs.Image.{readOf}
 use Rattle.card.specs.declared.reader.Reading.the-variants as reading
 use Rattle.machine.specs.Book.{Book, Entry}
 use Rattle.machine.specs.Calls.{Box, setUp}
-use Rattle.machine.specs.Demand.{Call, Each, Fitting, played}
+use Rattle.machine.specs.Lists.{Each}
+use Rattle.machine.specs.Played.{Call, Fitting, played}
 use Rattle.machine.specs.Order.{bookAt}
 use Rattle.machine.specs.Semaphores.{Levels, Semaphored, Semaphores4, SemaphoresFor}
 use Rattle.machine.specs.Size.{full, semaphoreLimit, shared, storeSize, tablesSize, valuesSize}
 use Rattle.machine.specs.State.{State}
 use Rattle.machine.proofs.Cuts.{cut}
-use Rattle.machine.proofs.Demand.{led-for}
+use Rattle.machine.proofs.Played.{led-for}
 use Rattle.machine.proofs.Held.{level}
 use Rattle.machine.proofs.Lists.{less-or-not}
 use Rattle.machine.proofs.Order.{to-the-end}

@@ -4,12 +4,12 @@ use mathlib.Core.Path.{_≡_, refl, sym, ap, _∙_}
 use mathlib.Core.List.{List, [], _∷_, _++_}
 use mathlib.Core.Logic.{_≢_}
 use native.Mathlib.Omega.{arith}
-use lib.ListN.{length, getD, take, length-append, List·getD-append}
-use lib.Seq.{getD-at, take-all, take-suc}
+use lib.ListN.{length, getD, take, length-append, length-drop, List·getD-append}
+use lib.Seq.{drop-append-le, getD-at, take-all, take-suc}
 use borrow.Author.Tests.{eq-eqb, ne-eqb}
 use Rattle.machine.specs.Book.{Book, Entry, Event, blank, bookOf, fed}
 use Rattle.machine.specs.Book as event
-use Rattle.machine.specs.Order.{Completes, Executes, FirstLeft, Unreleased, bookAt, entryAt}
+use Rattle.machine.specs.Order.{Completes, Executes, FirstLeft, Has, Rightful, Unreleased, bookAt, entryAt}
 use Rattle.machine.proofs.Booked.{entry}
 use Rattle.machine.proofs.Lists.{less-or-not, same-or-not}
 use Rattle.machine.proofs.Steps.{book-append}
@@ -219,33 +219,51 @@ module _ (trace : List Entry) where
         let y = began m k (x .0) (x .2) in
         (y .0, omega (arith, x .1, y .1), y .2)
 
-  -- ---- while nothing is released
+  -- ---- the one who has a mutex
 
-  unchanged : (m a b : ℕ) → Unreleased trace m a b → (j : ℕ) → a ≤ j → j ≤ b → bookAt trace j .releases m ≡ bookAt trace a .releases m
-  unchanged m a b quiet zero h g = let e : a ≡ 0 = omega arith in rw e
-  unchanged m a b quiet (suc j) h g =
-      same-or-not a (suc j)
-      (λ e. rw e)
-      (λ e.
-      let before = unchanged m a b quiet j (omega arith) (omega arith) in
-      less-or-not j (length trace)
-      (λ c. by-event (quiet j (omega arith) g) (next m j c) ∙ before)
-      (λ c. ap (λ (x : Book). x .releases m) (book-past j c) ∙ before))
-    where
-      by-event : entryAt trace j .event ≢ event.unlocks m →
-          Feeds m (bookAt trace j) (bookAt trace (suc j)) (entryAt trace j .thread) (entryAt trace j .event) →
-          bookAt trace (suc j) .releases m ≡ bookAt trace j .releases m
-      by-event h (locked e r n) = r
-      by-event h (released e r n) = absurd (h e)
-      by-event h (neither a b r n) = r
+  -- who has a mutex is the name of a lock that is first left
+  first-left : (book : Book) (m t : ℕ) → Has book m t → FirstLeft book m (book .releases m)
+  first-left book m t h = (refl, omega (arith, ap length (h .1), length-drop (book .releases m) (book .names m)))
 
-  pub one-holds : (m k a b : ℕ) → FirstLeft (bookAt trace a) m k → Unreleased trace m a b →
-      (j : ℕ) → a ≤ j → j ≤ b → FirstLeft (bookAt trace j) m k
-  one-holds m k a b f quiet j h g = (unchanged m a b quiet j h g ∙ f .0, omega (arith, later m a j h .longer, f .1))
+  -- each release is by the one who has the mutex
+  module _ (by-holder : (j : ℕ) → j < length trace → Rightful (bookAt trace j) (entryAt trace j)) where
+    -- until it executes unlock or wait, it has the mutex, and nothing is released
+    still : (m t a b : ℕ) → Has (bookAt trace a) m t → Unreleased trace m t a b → (j : ℕ) → a ≤ j → j ≤ b →
+        Has (bookAt trace j) m t × (bookAt trace j .releases m ≡ bookAt trace a .releases m)
+    still m t a b has quiet zero h g = let e : a ≡ 0 = omega arith in (rw e at has, rw e)
+    still m t a b has quiet (suc j) h g =
+        same-or-not a (suc j)
+        (λ e. (rw e at has, rw e))
+        (λ e.
+        let before = still m t a b has quiet j (omega arith) (omega arith) in
+        less-or-not j (length trace)
+        (λ c. by-event (omega arith) (before .0) (before .1) c (next m j c))
+        (λ c. rw (book-past j c) before))
+      where
+        by-event : a ≤ j → Has (bookAt trace j) m t → bookAt trace j .releases m ≡ bookAt trace a .releases m → j < length trace →
+            Feeds m (bookAt trace j) (bookAt trace (suc j)) (entryAt trace j .thread) (entryAt trace j .event) →
+            Has (bookAt trace (suc j)) m t × (bookAt trace (suc j) .releases m ≡ bookAt trace a .releases m)
+        by-event from mine same c (locked e r n) =
+            let there : bookAt trace j .releases m ≤ length (bookAt trace j .names m) = omega (arith, first-left (bookAt trace j) m t mine .1) in (
+              (
+                mine .0 ++ entryAt trace j .thread ∷ [],
+                rw (r, n, drop-append-le (bookAt trace j .releases m) (bookAt trace j .names m) (entryAt trace j .thread ∷ []) there, mine .1),
+              ),
+              r ∙ same,
+            )
+        by-event from mine same c (released e r n) =
+            let his = by-holder j c m e in
+            let both : entryAt trace j .thread ∷ his .0 ≡ t ∷ mine .0 = sym (his .1) ∙ mine .1 in
+            let me : entryAt trace j .thread ≡ t = cc in
+            absurd (quiet j (omega arith) g (λ i. record { thread = me i; event = e i }))
+        by-event from mine same c (neither l u r n) = ((mine .0, rw (r, n) (mine .1)), r ∙ same)
 
-  pub none-completes : (m k a b : ℕ) → FirstLeft (bookAt trace a) m k → Unreleased trace m a b →
-      (l j : ℕ) → a ≤ j → j < b → ¬ Completes trace m l j
-  none-completes m k a b f quiet l j h g c =
-      let next-one = one-holds m k a b f quiet (suc j) (omega arith) g in
-      let same : k ≡ l = sym (next-one .0) ∙ c .after .0 in
-      c .before (rw same at (one-holds m k a b f quiet j h (omega arith)))
+    pub still-has : (m t a b : ℕ) → Has (bookAt trace a) m t → Unreleased trace m t a b → (j : ℕ) → a ≤ j → j ≤ b → Has (bookAt trace j) m t
+    still-has m t a b has quiet j h g = still m t a b has quiet j h g .0
+
+    pub none-completes : (m t a b : ℕ) → Has (bookAt trace a) m t → Unreleased trace m t a b → (k j : ℕ) → a ≤ j → j < b → ¬ Completes trace m k j
+    none-completes m t a b has quiet k j h g c =
+        let now = still m t a b has quiet j h (omega arith) in
+        let then = still m t a b has quiet (suc j) (omega arith) g in
+        let same : bookAt trace j .releases m ≡ k = now .1 ∙ sym (then .1) ∙ c .after .0 in
+        c .before (same, omega (arith, same, first-left (bookAt trace j) m t (now .0) .1))

@@ -11,7 +11,7 @@ use Rattle.card.specs.Image.{readOf}
 use Rattle.card.specs.declared.reader.Reading.the-variants as reading
 use Rattle.machine.specs.Book.{Entry}
 use Rattle.machine.specs.Calls.{Box, Called, answerOf, boxOf, cardOf, countOf, runCall, setUp, stateOf, stepCall, storeFits}
-use Rattle.machine.specs.Demand.{Call, callOf, played, runOn}
+use Rattle.machine.specs.Played.{Call, callOf, played, runOn}
 use Rattle.machine.specs.Registers.{isFault, isRunning, stopped, zeros}
 use Rattle.machine.specs.Runner.{lent}
 use Rattle.machine.specs.Sessions.{card, word}

@@ -10,10 +10,12 @@ pub mod Step
 pub mod WellFormed
 pub mod Plain
 pub mod Calls
-pub mod Demand
+pub mod Played
+pub mod Fair
 pub mod Runner
 pub mod Sessions
 pub mod Laws
 pub mod Order
+pub mod Demand
 pub mod Semaphores
 pub mod Mistakes

@@ -1,4 +1,4 @@
--- Lists of numbers by tests: the members that pass, how often a number occurs, and a member moved to the end.
+-- Lists of numbers by tests: the members that pass, how often a number occurs, and a member moved to the end; and what holds of every member.
 use Prim.Native.Nat.{ℕ, zero, suc, _+_}
 use mathlib.Core.Bool.{Bool, true, false, cond, _&&_, _||_}
 use mathlib.Core.List.{List, [], _∷_, _++_}
@@ -33,3 +33,8 @@ every (suc n) f = every n f && f n
 unfoldable pub some : ℕ → (ℕ → Bool) → Bool
 some zero f = false
 some (suc n) f = some n f || f n
+
+-- every member of a list
+unfoldable pub Each {ℓ} : {A : Type ℓ} → (A → Type 0) → List A → Type 0
+Each P [] = Unit
+Each P (x ∷ xs) = P x × Each P xs

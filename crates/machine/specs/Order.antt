@@ -1,14 +1,17 @@
--- Who gets a mutex, and when: what follows demand 3, said over the instructions carried out since setting up. Lock number k on a mutex (from 0) is
--- the one whose name is number k of the mutex's list. The proofs are in proofs/Traces.antt (of the book), proofs/Cuts.antt and proofs/Order.antt.
+-- Who gets a mutex, and when: what demand 3 says of the instructions carried out since setting up. Lock number k on a mutex (from 0) is the one whose
+-- name is number k of the mutex's list. The proofs are in proofs/Traces.antt (of the book), proofs/Releases.antt, proofs/Cuts.antt and
+-- proofs/Order.antt.
 use Prim.Native.Nat.{ℕ, suc, _≤_, _<_}
 use mathlib.Core.List.{List, [], _∷_}
 use mathlib.Core.Logic.{_≢_}
 use mathlib.Core.Path.{_≡_}
 use lib.ListN.{length, drop, getD, take}
-use Rattle.machine.specs.Book.{Book, Entry, blank, bookOf, locks, other, unlocks}
-use Rattle.machine.specs.Calls.{Box, stateOf}
-use Rattle.machine.specs.Demand.{AfterCalls, Call, Each, Fitting, InPaperBox, holderOf, played}
-use Rattle.machine.specs.Size.{full, mutexLimit}
+use Rattle.machine.specs.Book.{Book, Entry, blank, bookOf, locks, namesLeft, other, unlocks}
+use Rattle.machine.specs.Calls.{Box}
+use Rattle.machine.specs.Fair.{holderOf}
+use Rattle.machine.specs.Lists.{Each}
+use Rattle.machine.specs.Played.{Call, Fitting, played}
+use Rattle.machine.specs.Size.{mutexLimit}
 use Rattle.machine.specs.Tables.{Tables, ownerOf}
 
 -- the book after the first j instructions
@@ -51,18 +54,26 @@ pub record Ordered (size : ℕ) (trace : List Entry) : Type 0 where
   pub nobody-skipped :
       (m k j : ℕ) → m < mutexLimit size → k < bookAt trace j .releases m → (i : ℕ) × (i < j) × Completes trace m k i
 
--- from after a instructions until after b of them, no unlock or wait was carried out on a mutex
-abbrev pub Unreleased : List Entry → ℕ → ℕ → ℕ → Type 0
-Unreleased trace m a b = (i : ℕ) → a ≤ i → i < b → entryAt trace i .event ≢ unlocks m
+-- a thread has a mutex: the first name left is its own
+abbrev pub Has : Book → ℕ → ℕ → Type 0
+Has book m t = (rest : List ℕ) × (namesLeft book m ≡ t ∷ rest)
 
--- while no unlock or wait is carried out on a mutex that has an owner, ..
+-- an unlock or wait is by the thread that has the mutex
+abbrev pub Rightful : Book → Entry → Type 0
+Rightful book entry = (m : ℕ) → entry .event ≡ unlocks m → Has book m (entry .thread)
+
+-- from after a instructions until after b of them, a thread executes no unlock and no wait on a mutex
+abbrev pub Unreleased : List Entry → ℕ → ℕ → ℕ → ℕ → Type 0
+Unreleased trace m t a b = (i : ℕ) → a ≤ i → i < b → entryAt trace i ≢ record { thread = t; event = unlocks m }
+
+-- "until the one who has it executes unlock or wait on it, no other thread's lock on it completes"
 pub record Exclusive (trace : List Entry) : Type 0 where
-  -- .. nobody else becomes the owner, ..
-  pub one-holds : (m k a b : ℕ) → FirstLeft (bookAt trace a) m k → Unreleased trace m a b →
-      (j : ℕ) → a ≤ j → j ≤ b → FirstLeft (bookAt trace j) m k
+  -- nobody but the one who has a mutex executes unlock or wait on it; ..
+  pub by-holder : (j : ℕ) → j < length trace → Rightful (bookAt trace j) (entryAt trace j)
+  -- .. until it does so, it has the mutex, ..
+  pub still-has : (m t a b : ℕ) → Has (bookAt trace a) m t → Unreleased trace m t a b → (j : ℕ) → a ≤ j → j ≤ b → Has (bookAt trace j) m t
   -- .. and no lock on it completes
-  pub none-completes : (m k a b : ℕ) → FirstLeft (bookAt trace a) m k → Unreleased trace m a b →
-      (l j : ℕ) → a ≤ j → j < b → ¬ Completes trace m l j
+  pub none-completes : (m t a b : ℕ) → Has (bookAt trace a) m t → Unreleased trace m t a b → (k j : ℕ) → a ≤ j → j < b → ¬ Completes trace m k j
 
 -- the lock that is first left is the owner's, and an owned mutex has one
 pub record Owners (size : ℕ) (tables : Tables) (book : Book) : Type 0 where
@@ -78,20 +89,3 @@ pub record Cut (size : ℕ) (card : List ℕ) (calls : List Call) (box : Box) (j
   pub first-trace : played size first box .trace ≡ take j (played size calls box .trace)
   pub second-trace : played size second (played size first box .box) .trace ≡ drop j (played size calls box .trace)
   pub same-end : played size second (played size first box .box) .box ≡ played size calls box .box
-
--- what holds of a list of calls
-pub record Served (size : ℕ) (card : List ℕ) (calls : List Call) (box : Box) : Type 0 where
-  pub in-order : Ordered size (played size calls box .trace)
-  pub exclusive : Exclusive (played size calls box .trace)
-  -- of the state at the end
-  pub owners : Owners size (stateOf size (played size calls box .box) .tables) (bookOf blank (played size calls box .trace))
-  -- the state after any number of instructions is one at the end of a list of calls: so demand 3, and this, speak of it too
-  pub cut : (j : ℕ) → j ≤ length (played size calls box .trace) → Cut size card calls box j
-
--- for a box of any size, as demand 3
-abbrev pub OrderFor : ℕ → Type 0
-OrderFor size = AfterCalls size (Served size)
-
--- and for the paper's box
-abbrev pub Order3 : Type 0
-Order3 = InPaperBox (Served full)

@@ -9,7 +9,7 @@ use lib.IntN.{pos, _+ℤ_, _-ℤ_}
 use lib.ListN.{getD, length}
 use Rattle.machine.specs.Book.{Book, Entry, blank, bookOf, downs, downsLeft, permitted, ups}
 use Rattle.machine.specs.Calls.{Box, stateOf}
-use Rattle.machine.specs.Demand.{AfterCalls, Call, InPaperBox, played}
+use Rattle.machine.specs.Played.{AfterCalls, Call, InPaperBox, played}
 use Rattle.machine.specs.Order.{bookAt, entryAt}
 use Rattle.machine.specs.Size.{full}
 use Rattle.machine.specs.State.{State, semaphoreCount}
