@@ -14,14 +14,15 @@ use Rattle.text.specs.Lines.{line}
 use Rattle.machine.proofs.Every.{and-true}
 use Rattle.digits.specs.Reading.{isDecimal, valueOf}
 use Rattle.digits.proofs.Undone.{reads-back}
-use Rattle.words.specs.Words.{join, same, split}
+use Rattle.text.specs.Bytes.{same}
+use Rattle.words.specs.Words.{join, split}
 use Rattle.words.proofs.Clash.{impossible}
 use Rattle.words.proofs.Cuts.{join-split, same-is}
 use Rattle.names.specs.Names.{hasOperand, nameOf}
 use Rattle.names.proofs.Table.{named-is}
 use Rattle.lister.specs.Text.{addressOf, cellsWord, headerLine, instructionLine, instructionLines, operandWords, textOf}
 use Rattle.importer.specs.Forms.{Item, Lines, bad, card, good, headed, headerRead, itemRead, lastRead, lineRead, linesRead, right, textRead}
-use Rattle.importer.specs.Importing.{firstAgainst, inBits, said, wordOf, wordsOf}
+use Rattle.importer.specs.Importing.{firstAgainst, inBits, itemWord, said, wordsOf}
 use Rattle.importer.proofs.Judged.{AllNamed, Operands, first-of, lines-named, spells, spelt, word}
 use Rattle.importer.proofs.Words.{address-back, line-is, operand-back, told}
 
@@ -43,7 +44,7 @@ item-back words item fits e =
 
 -- ---- a line
 
-line-back : (l : List ℕ) (index : ℕ) (item : Item) → item .opcode < 41 → inBits (item .operand) ≡ true → lineRead (split 32 l) ≡ right index item → l ++ 10 ∷ [] ≡ instructionLine index (wordOf item)
+line-back : (l : List ℕ) (index : ℕ) (item : Item) → item .opcode < 41 → inBits (item .operand) ≡ true → lineRead (split 32 l) ≡ right index item → l ++ 10 ∷ [] ≡ instructionLine index (itemWord item)
 line-back l index item h fits e =
     let s = spells (split 32 l) index item e in
     let w = word item h fits in
@@ -51,7 +52,7 @@ line-back l index item h fits e =
     let written = item-back (s .others) item fits (s .spelled) in
     let words : join 32 (s .first ∷ s .others) ≡ l = ap (join 32) (sym (s .are)) ∙ join-split 32 l in
     sym
-    (line-is (addressOf index) (nameOf (opcodeOf (wordOf item)) ∷ operandWords (wordOf item))
+    (line-is (addressOf index) (nameOf (opcodeOf (itemWord item)) ∷ operandWords (itemWord item))
     ∙ rw (w .opcode, w .operand, address, ← written, words))
 
 -- ---- all lines
@@ -86,7 +87,7 @@ lines-back last (l ∷ m ∷ more) index place items named rules e =
     let rest = lines-back last (m ∷ more) (suc index) (place + suc (length l)) (f .others) (known .1) (a .others) (f .follow) in
     sym (append-snoc l 10 (join 10 (m ∷ more)))
     ∙ ap (λ (first : List ℕ). first ++ join 10 (m ∷ more)) here
-    ∙ ap (λ (others : List ℕ). instructionLine index (wordOf (f .item)) ++ others) rest
+    ∙ ap (λ (others : List ℕ). instructionLine index (itemWord (f .item)) ++ others) rest
     ∙ ap (λ (all : List Item). instructionLines index (wordsOf all)) (sym (f .are))
 
 -- ---- the header, and the whole text

@@ -10,7 +10,7 @@ use lib.Dec.{leb, ltb}
 use lib.IntN.{ℤ, pos, negsuc}
 use lib.ListN.{length}
 use Rattle.instruction.specs.Rules.{allows, checkOf, ruleOf}
-use Rattle.instruction.specs.Word.{opcodeOf, operandOf, signed24}
+use Rattle.instruction.specs.Word.{bitsOf, opcodeOf, operandOf, signed24}
 use Rattle.instruction.specs.declared.Rule.{Rule}
 use Rattle.instruction.specs.declared.Rule.the-variants.{Any, Offset, Count, Target, Zero}
 use Rattle.instruction.specs.declared.Verdict.{Verdict}
@@ -21,14 +21,15 @@ use Rattle.text.specs.Decimal.{decimal}
 use Rattle.machine.proofs.Every.{and-true}
 use Rattle.machine.proofs.Lists.{cases, less-or-not}
 use Rattle.digits.proofs.Undone.{decimal-read, decimal-written}
-use Rattle.words.specs.Words.{bytes, join, lacks, split}
+use Rattle.text.specs.Bytes.{bytes}
+use Rattle.words.specs.Words.{join, lacks, split}
 use Rattle.words.proofs.Clash.{impossible}
 use Rattle.words.proofs.Cuts.{AllLack, same-self, split-join}
 use Rattle.names.specs.Names.{hasOperand, nameOf}
 use Rattle.names.proofs.Table.{right as named}
 use Rattle.lister.specs.Text.{addressOf, cellsWord, instructionLine, instructionLines, operandWords, textOf}
 use Rattle.importer.specs.Forms.{Item, card, good, headerRead, itemRead, lineRead, linesRead, right, textRead}
-use Rattle.importer.specs.Importing.{bitsOf, firstAgainst, inBits, said, wordOf, wordsOf}
+use Rattle.importer.specs.Importing.{firstAgainst, inBits, itemWord, said, wordsOf}
 use Rattle.importer.proofs.Following.{lines-cut}
 use Rattle.importer.proofs.Cards.{text-cut}
 use Rattle.importer.proofs.Numbers.{decimal-lacks}
@@ -89,7 +90,7 @@ whole b h =
 operand-fits : (w : ℕ) → inBits (operandOf w) ≡ true
 operand-fits w = whole (w % 16777216) (omega arith) .fits
 
-pub word-again : (w : ℕ) → wordOf (itemOf w) ≡ w
+pub word-again : (w : ℕ) → itemWord (itemOf w) ≡ w
 word-again w = let low = whole (w % 16777216) (omega arith) .back in rw low (omega arith)
 
 pub words-again : (ws : List ℕ) → wordsOf (itemsOf ws) ≡ ws

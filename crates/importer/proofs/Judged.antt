@@ -10,7 +10,7 @@ use lib.Dec.{eqb, leb, ltb}
 use lib.IntN.{ℤ, pos, negsuc}
 use lib.ListN.{length}
 use Rattle.instruction.specs.Rules.{allows, checkOf, ruleOf}
-use Rattle.instruction.specs.Word.{opcodeOf, operandOf, signed24}
+use Rattle.instruction.specs.Word.{bitsOf, opcodeOf, operandOf, signed24}
 use Rattle.instruction.specs.declared.Verdict.the-variants as verdict
 use Rattle.card.specs.Code.{firstBad, orElse, scanOf}
 use Rattle.card.specs.declared.scan.Scan.{Scan}
@@ -25,7 +25,7 @@ use Rattle.names.specs.declared.Named.the-variants.{Opcode, Unknown}
 use Rattle.names.proofs.Table.{named-is}
 use Rattle.importer.specs.Coding.{coded, codedItems}
 use Rattle.importer.specs.Forms.{Item, Line, Lines, addressed, bad, bareItem, before, fullItem, good, isAddress, itemRead, judged, lastRead, lineRead, linesRead, operandRead, right, wrong}
-use Rattle.importer.specs.Importing.{bitsOf, firstAgainst, inBits, isAllowed, wordOf, wordsOf}
+use Rattle.importer.specs.Importing.{firstAgainst, inBits, isAllowed, itemWord, wordsOf}
 
 -- ---- every instruction that is read has a name
 
@@ -146,9 +146,9 @@ bits (negsuc k) e =
     record { small = omega arith; back = rw (high, less) (ap negsuc (omega (arith, most))) }
 
 pub record Word (item : Item) : Type 0 where
-  pub opcode : opcodeOf (wordOf item) ≡ item .opcode
-  pub operand : operandOf (wordOf item) ≡ item .operand
-  pub small : wordOf item < 4294967296
+  pub opcode : opcodeOf (itemWord item) ≡ item .opcode
+  pub operand : operandOf (itemWord item) ≡ item .operand
+  pub small : itemWord item < 4294967296
 
 pub word : (item : Item) → item .opcode < 41 → inBits (item .operand) ≡ true → Word item
 word item h e =
@@ -162,7 +162,7 @@ check-coded : (last : ℤ) (item : Item) → item .opcode < 41 → checkOf last 
 check-coded last item h = by (inBits (item .operand)) refl
   where
     by : (t : Bool) → inBits (item .operand) ≡ t →
-        checkOf last (cond t (wordOf item) 1) ≡ cond (t && allows (ruleOf (item .opcode)) last (item .operand)) verdict.Fine verdict.BadOperand
+        checkOf last (cond t (itemWord item) 1) ≡ cond (t && allows (ruleOf (item .opcode)) last (item .operand)) verdict.Fine verdict.BadOperand
     by true t = let w = word item h t in rw (w .opcode, w .operand, le-ltb 40 (item .opcode) (omega (arith, h)))
     by false t = refl
 
@@ -187,7 +187,7 @@ allowed-coded last [] index e = refl
 allowed-coded last (item ∷ items) index e = by (inBits (item .operand)) refl (allows (ruleOf (item .opcode)) last (item .operand)) e (allowed-coded last items (suc index))
   where
     by : (t : Bool) → inBits (item .operand) ≡ t → (u : Bool) → cond (t && u) (firstAgainst last (suc index) items) (some index) ≡ none →
-        (firstAgainst last (suc index) items ≡ none → codedItems items ≡ wordsOf items) → coded item ∷ codedItems items ≡ wordOf item ∷ wordsOf items
+        (firstAgainst last (suc index) items ≡ none → codedItems items ≡ wordsOf items) → coded item ∷ codedItems items ≡ itemWord item ∷ wordsOf items
     by true t true q later = rw (t, later q)
     by true t false q later = impossible cc
     by false t u q later = impossible cc

@@ -12,11 +12,13 @@ use lib.IntN.{ℤ}
 use lib.ListN.{drop, length, take}
 use lib.Seq.{take-length}
 use Rattle.instruction.specs.Rules.{ruleOf}
+use Rattle.instruction.specs.Word.{bitsOf}
 use Rattle.card.proofs.Words.{rest}
 use Rattle.machine.proofs.Lists.{cases, clash, less-or-not}
 use Rattle.digits.specs.Reading.{capped, decimalOf, isDecimal, valueOf}
 use Rattle.digits.specs.declared.Decimal.the-variants as decimal
-use Rattle.words.specs.Words.{lacks, same, split, upTo}
+use Rattle.text.specs.Bytes.{same}
+use Rattle.words.specs.Words.{lacks, split, upTo}
 use Rattle.words.proofs.Clash.{impossible}
 use Rattle.words.proofs.Cuts.{cut, part-alone, two, whole}
 use Rattle.names.specs.Names.{hasOperand, opcodeNamed}
@@ -25,7 +27,7 @@ use Rattle.names.specs.declared.Named.the-variants.{Opcode, Unknown}
 use Rattle.lister.specs.Text.{cellsWord}
 use Rattle.importer.specs.Coding.{addressRead, coded, codedCells, codedEntry, codedLine, codedOperand, placedLine}
 use Rattle.importer.specs.Forms.{Item, addressed, bareItem, fullItem, headerRead, isAddress, itemRead, lineRead, operandRead, right, wrong}
-use Rattle.importer.specs.Importing.{bitsOf, inBits}
+use Rattle.importer.specs.Importing.{inBits}
 use Rattle.importer.specs.declared.items.Entry.the-variants as entry
 use Rattle.importer.specs.declared.lines.Address.{Address}
 use Rattle.importer.specs.declared.lines.Address.the-variants as address

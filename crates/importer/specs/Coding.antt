@@ -8,6 +8,7 @@ use lib.Dec.{eqb, ltb}
 use lib.ListN.{length, take}
 use lib.IntN.{ℤ}
 use lib.Seq.{sets}
+use Rattle.instruction.specs.Word.{bitsOf}
 use Rattle.writer.specs.Writing.{bufferOf, writeOf}
 use Rattle.writer.specs.declared.Writing.{Writing}
 use Rattle.writer.specs.declared.Writing.the-variants as writing
@@ -16,7 +17,7 @@ use Rattle.digits.specs.declared.Decimal.{Decimal}
 use Rattle.digits.specs.declared.Decimal.the-variants as decimal
 use Rattle.words.specs.Words.{split}
 use Rattle.importer.specs.Forms.{Item, Line, Lines, bad, good, headerRead, isAddress, lineRead, right, wrong}
-use Rattle.importer.specs.Importing.{bitsOf, inBits, wordOf}
+use Rattle.importer.specs.Importing.{inBits, itemWord}
 use Rattle.importer.specs.declared.header.Header.{Header}
 use Rattle.importer.specs.declared.header.Header.the-variants as header
 use Rattle.importer.specs.declared.importing.Importing.{Importing}
@@ -48,7 +49,7 @@ codedOperand (some k) = cond (inBits k) (operand.Bits (bitsOf k)) operand.Beyond
 
 -- an instruction by its word; where the operand is beyond 24 bits, by one that is against its rule too: halt 1
 abbrev pub coded : Item → ℕ
-coded item = cond (inBits (item .operand)) (wordOf item) 1
+coded item = cond (inBits (item .operand)) (itemWord item) 1
 
 unfoldable pub codedItems : List Item → List ℕ
 codedItems [] = []

@@ -8,7 +8,8 @@ use lib.IntN.{ℤ, pos, negsuc}
 use lib.ListN.{length}
 use Rattle.instruction.specs.Rules.{ruleOf}
 use Rattle.digits.specs.Reading.{allDigits, isDecimal, valueOf}
-use Rattle.words.specs.Words.{same, split}
+use Rattle.text.specs.Bytes.{same}
+use Rattle.words.specs.Words.{split}
 use Rattle.names.specs.Names.{hasOperand, opcodeNamed}
 use Rattle.names.specs.declared.Named.{Named}
 use Rattle.names.specs.declared.Named.the-variants.{Opcode, Unknown}

@@ -1,5 +1,5 @@
 -- Importing: "40 .., 41 .., 42 ..; then 3 to 5 as the writer gives them; 43 at 0, last, no room for the .. image".
-use Prim.Native.Nat.{ℕ, suc, _+_, _*_, _-_}
+use Prim.Native.Nat.{ℕ, suc}
 use mathlib.Core.Bool.{Bool, cond, _&&_, _||_}
 use mathlib.Core.List.{List, [], _∷_, _++_}
 use mathlib.Core.Option.{Option, none, some}
@@ -8,10 +8,12 @@ use lib.Dec.{ltb}
 use lib.IntN.{ℤ, pos, negsuc}
 use lib.ListN.{drop, length}
 use Rattle.instruction.specs.Rules.{allows, isBetween, ruleOf}
+use Rattle.instruction.specs.Word.{wordOf}
 use Rattle.card.specs.Image.{imageSize, lastOf, outOfRange}
 use Rattle.writer.specs.Writing.{imageOf, wordsBytes}
 use Rattle.digits.specs.Reading.{allDigits, isDecimal, valueFrom}
-use Rattle.words.specs.Words.{bytes, same, split}
+use Rattle.text.specs.Bytes.{bytes, same}
+use Rattle.words.specs.Words.{split}
 use Rattle.names.specs.Names.{namedFrom, names}
 use Rattle.importer.specs.Forms.{Item, Text, card, headerRead, itemRead, lineRead, linesRead, operandRead, refused, textRead}
 use Rattle.importer.specs.declared.importing.Importing.{Importing}
@@ -21,21 +23,17 @@ use Rattle.importer.specs.declared.importing.Importing.the-variants.{Imp
 abbrev pub said : List ℕ → Text
 said text = textRead (split 10 text)
 
--- "a 24-bit two's complement operand": which numbers it can be, and the bits of such a number
+-- "a 24-bit two's complement operand": which numbers it can be
 abbrev pub inBits : ℤ → Bool
 inBits k = isBetween (negsuc 8388607) (pos 8388607) k
 
-abbrev pub bitsOf : ℤ → ℕ
-bitsOf (pos k) = k
-bitsOf (negsuc k) = 16777215 - k
-
--- an instruction as a word: opcode times 2^24 plus the operand's 24 bits
-abbrev pub wordOf : Item → ℕ
-wordOf item = item .opcode * 16777216 + bitsOf (item .operand)
+-- the words of the instructions
+abbrev pub itemWord : Item → ℕ
+itemWord item = wordOf (item .opcode) (item .operand)
 
 unfoldable pub wordsOf : List Item → List ℕ
 wordsOf [] = []
-wordsOf (item ∷ items) = wordOf item ∷ wordsOf items
+wordsOf (item ∷ items) = itemWord item ∷ wordsOf items
 
 -- number 5, "operand against its rule", of which none allows more than 24 bits
 abbrev pub isAllowed : ℤ → Item → Bool

@@ -13,7 +13,7 @@ use Rattle.card.specs.Image.{Headed, cellsOf, countOf, readOf}
 use Rattle.card.specs.declared.reader.Reading.the-variants as reading
 use Rattle.card.proofs.Header.{accepts, headed}
 use Rattle.text.specs.Lines.{line}
-use Rattle.words.specs.Words.{bytes}
+use Rattle.text.specs.Bytes.{bytes}
 use Rattle.lister.specs.Filling.{filled, hasRoom, lineText, reached}
 use Rattle.lister.specs.Listing.{Leaves, Lists, contentOf, imageLine, lineOf, listOf}
 use Rattle.lister.specs.declared.listing.Listing.the-variants.{Written, Past, Refused}

@@ -11,7 +11,8 @@ use Rattle.card.specs.Code.{wordsOf}
 use Rattle.card.specs.Image.{cellsOf, codeOf}
 use Rattle.text.specs.Decimal.{decimal, places, signed}
 use Rattle.text.specs.Lines.{line}
-use Rattle.words.specs.Words.{bytes, split}
+use Rattle.text.specs.Bytes.{bytes}
+use Rattle.words.specs.Words.{split}
 use Rattle.names.specs.Names.{hasOperand, nameOf, names}
 
 -- "First line `cells` and g", g "in decimal without leading zeros .., without a sign"; "each line ended by a line feed"

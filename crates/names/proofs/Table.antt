@@ -10,7 +10,8 @@ use lib.Dec.{eqb, leb}
 use lib.ListN.{List·getD-eq-default, drop, drop-of-length-le, getD, length, take}
 use lib.Seq.{drop-cons}
 use Rattle.text.specs.Lines.{Puts}
-use Rattle.words.specs.Words.{bytes, lacks, same, split, upTo}
+use Rattle.text.specs.Bytes.{bytes, same}
+use Rattle.words.specs.Words.{lacks, split, upTo}
 use Rattle.words.proofs.Clash.{impossible}
 use Rattle.words.proofs.Cuts.{part, same-is}
 use Rattle.machine.specs.Lists.{every}

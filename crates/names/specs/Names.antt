@@ -6,7 +6,8 @@ use mathlib.Core.Path.{_≡_, refl}
 use lib.ListN.{getD, length, take}
 use Rattle.instruction.specs.declared.Rule.{Rule}
 use Rattle.instruction.specs.declared.Rule.the-variants.{Any, Offset, Count, Target, Zero}
-use Rattle.words.specs.Words.{bytes, same, split}
+use Rattle.text.specs.Bytes.{bytes, same}
+use Rattle.words.specs.Words.{split}
 use Rattle.names.specs.declared.Named.{Named}
 use Rattle.names.specs.declared.Named.the-variants.{Opcode, Unknown}
 

@@ -5,7 +5,7 @@ ghost use lib.ListN.{length};
 ghost use mathlib.Core.Path.{_≡_};
 ghost use Rattle.instruction.specs.Rules.{ruleOf};
 ghost use Rattle.text.specs.Lines.{Puts};
-ghost use Rattle.words.specs.Words.{same};
+ghost use Rattle.text.specs.Bytes.{same};
 ghost use Rattle.names.specs.Names.{hasOperand, nameOf, opcodeNamed, table};
 use instruction::Rule;
 

@@ -7,7 +7,8 @@ use native.Mathlib.Omega.{arith}
 use borrow.Author.Tests.{eqb-true, eq-eqb, not-true}
 use lib.Dec.{eqb}
 use lib.ListN.{length, take, drop}
-use Rattle.words.specs.Words.{join, lacks, onto, same, split, upTo}
+use Rattle.text.specs.Bytes.{same}
+use Rattle.words.specs.Words.{join, lacks, onto, split, upTo}
 use Rattle.words.proofs.Clash.{impossible}
 use Rattle.machine.proofs.Every.{and-true, true-and}
 

@@ -10,7 +10,8 @@ use borrow.Author.Tests.{eq-eqb, ne-eqb}
 use lib.Dec.{eqb}
 use lib.ListN.{length, getD, drop, drop-of-length-le}
 use lib.Seq.{drop-cons}
-use Rattle.words.specs.Words.{same, upTo}
+use Rattle.text.specs.Bytes.{same}
+use Rattle.words.specs.Words.{upTo}
 
 module _ (sep : ℕ) (text : List ℕ) (i : ℕ) where
   -- the bytes from i on, by the byte there

@@ -1,7 +1,8 @@
 -- `names::opcode_named` meets its contract. Assumes nothing.
 use mathlib.Core.Path.{refl}
 use borrow.Author.Needs.{needs}
-use Rattle.words.specs.Words.{bytes, same, split}
+use Rattle.text.specs.Bytes.{bytes, same}
+use Rattle.words.specs.Words.{split}
 use Rattle.words.proofs.Cuts.{same-is}
 use Rattle.names.specs.Names.{names, padded, table}
 use Rattle.names.proofs.opcode_named.Statement.{statement}

@@ -2,7 +2,8 @@
 use mathlib.Core.Path.{refl}
 use native.Mathlib.Omega.{arith}
 use borrow.Author.Needs.{needs}
-use Rattle.words.specs.Words.{bytes, same, split}
+use Rattle.text.specs.Bytes.{bytes, same}
+use Rattle.words.specs.Words.{split}
 use Rattle.words.proofs.Cuts.{same-is}
 use Rattle.names.specs.Names.{names, padded, table}
 use Rattle.names.proofs.Table.{no-name, right}

@@ -2,7 +2,7 @@
 use borrow.Author.Needs.{needs}
 use Rattle.text.specs.Lines.{line}
 use Rattle.text.proofs.Lines.{both}
-use Rattle.words.specs.Words.{bytes}
+use Rattle.text.specs.Bytes.{bytes}
 use Rattle.lister.proofs.lines.put_header.Statement.{statement}
 use Rattle.lister.proofs.lines.put_header.Tie as tie
 
