@@ -7,7 +7,8 @@ use lib.IntN.{ℤ, pos, negℤ, _+ℤ_, _-ℤ_, _*ℤ_}
 use lib.ListN.{set, replicate}
 use lib.Seq.{sets}
 use lib.Signed.{leZ, ltZ, quotZ, remZ}
-use Rattle.machine.specs.Execution.{Outcome, aCondition, aMutex, aSemaphore, aThread, binary, compared, conditionMade, creating, division, done, ending, eqZ, exec, fault, finalizing, fits, frameCell, fresh, joining, locking, lowering, mutexMade, needs, opening, popped, pushed, raising, replaced, returning, rooms, truth, unlocking, waiting, within}
+use Rattle.arithmetic.specs.Arithmetic.{eqZ}
+use Rattle.machine.specs.Execution.{Outcome, aCondition, aMutex, aSemaphore, aThread, binary, compared, conditionMade, creating, division, done, ending, exec, fault, finalizing, fits, frameCell, fresh, joining, locking, lowering, mutexMade, needs, opening, popped, pushed, raising, replaced, returning, rooms, truth, unlocking, waiting, within}
 use Rattle.machine.specs.Instructions.{Instruction}
 use Rattle.machine.specs.Instructions as instr
 use Rattle.machine.specs.Registers.{halted, stopped, withCells, withFp, withPc, withState}

@@ -13,7 +13,8 @@ use lib.Signed.{leZ, ltZ}
 use borrow.Author.Tests.{eqb-true, eqb-false, leb-true, leb-false, ltb-true, ltb-false}
 use Rattle.machine.specs.Book.{Book, eventOf, fed, permitted}
 use Rattle.machine.specs.Book as event
-use Rattle.machine.specs.Execution.{Outcome, ending, eqZ, exec, fault, frame, fresh, lowered, opening, owns, raised}
+use Rattle.arithmetic.specs.Arithmetic.{eqZ}
+use Rattle.machine.specs.Execution.{Outcome, ending, exec, fault, frame, fresh, lowered, opening, owns, raised}
 use Rattle.machine.specs.Instructions.{Instruction}
 use Rattle.machine.specs.Instructions as instr
 use Rattle.machine.specs.Plain.{Frame}

@@ -29,4 +29,3 @@ pub mod Order
 pub mod Demand
 pub mod Permitted
 pub mod Semaphores
-pub mod Mistakes

@@ -8,7 +8,8 @@ use native.Mathlib.Omega.{arith}
 use lib.ListN.{length}
 use Rattle.machine.specs.Book.{Book, Entry, Event, bookOf, eventOf, fed}
 use Rattle.machine.specs.Book as event
-use Rattle.machine.specs.Execution.{eqZ, exec}
+use Rattle.arithmetic.specs.Arithmetic.{eqZ}
+use Rattle.machine.specs.Execution.{exec}
 use Rattle.machine.specs.Instructions.{Instruction}
 use Rattle.machine.specs.Instructions as instr
 use Rattle.machine.specs.Order.{Has, Rightful}

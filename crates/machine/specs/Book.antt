@@ -5,7 +5,7 @@ use mathlib.Core.List.{List, [], _∷_, _++_}
 use lib.Dec.{eqb}
 use lib.IntN.{ℤ, pos, negsuc, natAbs}
 use lib.ListN.{drop}
-use Rattle.machine.specs.Execution.{eqZ}
+use Rattle.arithmetic.specs.Arithmetic.{eqZ}
 use Rattle.machine.specs.Instructions.{Instruction}
 use Rattle.machine.specs.Instructions as instr
 use Rattle.machine.specs.State.{State, below, cell, minusOne, top}

@@ -7,6 +7,7 @@ use lib.IntN.{ℤ, pos, negsuc, negℤ, _+ℤ_, _-ℤ_, _*ℤ_}
 use lib.ListN.{getD, set, replicate}
 use lib.Seq.{sets}
 use lib.Signed.{leZ, ltZ, mag, quotZ, remZ}
+use Rattle.arithmetic.specs.Arithmetic.{eqZ}
 use Rattle.machine.specs.Instructions.{Instruction}
 use Rattle.machine.specs.Instructions as instr
 use Rattle.machine.specs.Registers.{halted, withCells, withFp, withFree, withMade, withPc, withSemaphores, withState}
@@ -44,9 +45,6 @@ divides (negsuc a) o = o
 -- a test as a cell: "Comparisons give 1 or 0"
 abbrev pub truth : Bool → ℤ
 truth b = cond b (pos 1) (pos 0)
-
-abbrev pub eqZ : ℤ → ℤ → Bool
-eqZ a b = leZ a b && leZ b a
 
 -- 31: "exit, and a return that ends the thread, are faulted when the thread owns any mutex" (change request Two); else "the thread ends with" a value
 abbrev pub ending : ℕ → State → ℤ → Outcome

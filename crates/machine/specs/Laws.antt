@@ -11,10 +11,10 @@ use Rattle.card.specs.Image.{readOf}
 use Rattle.card.specs.declared.reader.Reading.the-variants as reading
 use Rattle.machine.specs.Book.{Entry}
 use Rattle.machine.specs.Calls.{Box, Called, answerOf, boxOf, cardOf, countOf, runCall, setUp, stateOf, stepCall, storeFits}
+use Rattle.machine.specs.Cards.{card, create, down, halt, loadc, lock, newmutex, newsema, yield}
 use Rattle.machine.specs.Played.{Call, callOf, played, runOn}
 use Rattle.machine.specs.Registers.{isFault, isRunning, stopped, zeros}
 use Rattle.machine.specs.Runner.{lent}
-use Rattle.machine.specs.Sessions.{card, word}
 use Rattle.machine.specs.Size.{full, shared, storeSize, tablesSize, valuesSize}
 use Rattle.machine.specs.State.{State, semaphoreCount, start, withRegs}
 use Rattle.machine.specs.Step.{carried, run}
@@ -127,25 +127,23 @@ AnswersAgain =
     isRunning (box .regs) ≡ false →
     runCall size image m box ≡ record { answer = answerOf (box .regs); trace = []; box = box }
 
--- a card on which two threads want one mutex: newmutex, lock, loadc 7, loadc 0, create, yield, halt; from 7 on, loadc 0, lock
+-- a card on which two threads want one mutex; the second begins at 7
 abbrev pub contended : List ℕ
 contended =
     card
-    (word 31 (pos 0) ∷ word 32 (pos 0) ∷ word 1 (pos 7) ∷ word 1 (pos 0) ∷ word 26 (pos 0) ∷ word 27 (pos 0) ∷ word 0 (pos 0) ∷ word 1 (pos 0) ∷ word 32 (pos 0)
-    ∷ [])
+    (newmutex ∷ lock ∷ loadc (pos 7) ∷ loadc (pos 0) ∷ create ∷ yield ∷ halt
+    ∷ loadc (pos 0) ∷ lock ∷ [])
 
 -- the tables after a run of 8 steps on it, in the paper's box
 abbrev pub contention : Tables
 contention = stateOf full (played full (runOn contended 8 ∷ []) (setUp full contended (lent full) .box) .box) .tables
 
--- a card on which a semaphore with a starting count of 1 is lowered three times, twice by other threads: loadc 1, newsema, down, loadc 9, loadc 0,
--- create, yield, loadc 0, down; from 9 on, loadc 0, down (change request Four)
+-- a card on which a semaphore with a starting count of 1 is lowered three times, twice by others; these begin at 9 (change request Four)
 abbrev pub lowered : List ℕ
 lowered =
     card
-    (word 1 (pos 1) ∷ word 38 (pos 0) ∷ word 40 (pos 0) ∷ word 1 (pos 9) ∷ word 1 (pos 0) ∷ word 26 (pos 0) ∷ word 27 (pos 0) ∷ word 1 (pos 0) ∷ word 40 (pos 0)
-    ∷ word 1 (pos 0) ∷ word 40 (pos 0)
-    ∷ [])
+    (loadc (pos 1) ∷ newsema ∷ down ∷ loadc (pos 9) ∷ loadc (pos 0) ∷ create ∷ yield ∷ loadc (pos 0) ∷ down
+    ∷ loadc (pos 0) ∷ down ∷ [])
 
 -- the box after a run of 11 steps on it: the machine is stuck
 abbrev pub awaited : State

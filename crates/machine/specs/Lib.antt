@@ -13,6 +13,7 @@ pub mod Calls
 pub mod Played
 pub mod Fair
 pub mod Runner
+pub mod Cards
 pub mod Sessions
 pub mod Laws
 pub mod Order

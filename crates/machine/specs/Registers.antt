@@ -2,7 +2,6 @@
 use Prim.Native.Nat.{ℕ, _+_, _-_}
 use mathlib.Core.Bool.{Bool, _&&_}
 use lib.Dec.{eqb, leb}
-use lib.IntN.{ℤ, pos, _-ℤ_}
 use Rattle.machine.specs.declared.registers.Registers.{Registers}
 
 -- "A machine is running, halted, stuck or faulted." Halted is 0, since a refused set-up gives all registers 0, halted.
@@ -20,10 +19,6 @@ faulted = 3
 
 abbrev pub isRunning : Registers → Bool
 isRunning r = eqb (r .state) running
-
--- "SP −1 to 127": the registers hold the number of cells, which is one more
-abbrev pub spOf : Registers → ℤ
-spOf r = pos (r .cells) -ℤ pos 1
 
 -- the register of the running thread where none runs
 abbrev pub nobody : ℕ → ℕ

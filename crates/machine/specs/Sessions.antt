@@ -1,82 +1,20 @@
 -- "Sessions on both sides of each limit": P1 to P14 of the paper as one table, each a card, the line that the runner prints, and what the ended
--- threads ended with. proofs/Sessions.antt proves `Hold` by computing the test over all rows.
-use Prim.Native.Char.{code}
-use Prim.Native.Nat.{ℕ, _+_, _-_, _*_}
-use Prim.Native.String as string
+-- threads ended with. proofs/Sessions.antt computes a test over all rows, and a law turns it into what each row says.
+use Prim.Native.Nat.{ℕ}
 use Prim.Native.String.{String}
-use mathlib.Core.Bool.{Bool, true, false, cond, _&&_}
+use mathlib.Core.Bool.{cond}
 use mathlib.Core.List.{List, [], _∷_}
-use mathlib.Core.Path.{_≡_, refl}
+use mathlib.Core.Path.{_≡_}
 use lib.Dec.{eqb}
 use lib.IntN.{ℤ, pos, negsuc}
 use lib.ListN.{getD}
-use Rattle.writer.specs.Writing.{imageOf, wordsBytes}
-use Rattle.machine.specs.Calls.{Box, Called, stateOf}
-use Rattle.machine.specs.Execution.{eqZ}
-use Rattle.machine.specs.Lists.{upTo}
-use Rattle.machine.specs.Runner.{judgedPart, lineOf, runnerCall, runnerLine}
+use Rattle.text.specs.Bytes.{bytes}
+use Rattle.machine.specs.Calls.{Box, stateOf}
+use Rattle.machine.specs.Cards.{card, create, dup, join, load, loadc, lock, mul, newmutex, pop, return, unlock}
+use Rattle.machine.specs.Lists.{Each, upTo}
+use Rattle.machine.specs.Runner.{judgedPart, runnerCall, runnerLine}
 use Rattle.machine.specs.Size.{full}
 use Rattle.machine.specs.Tables.{ended, placeOf}
-
--- the bytes of a text in ASCII
-unfoldable pub bytesOf : String → List ℕ
-bytesOf string.[] = []
-bytesOf (string._∷_ c rest) = code c ∷ bytesOf rest
-
--- for example P2's line, which ends in a line feed
-bytes-example : bytesOf "halted 2 7\n" ≡ 104 ∷ 97 ∷ 108 ∷ 116 ∷ 101 ∷ 100 ∷ 32 ∷ 50 ∷ 32 ∷ 55 ∷ 10 ∷ []
-unfolding bytesOf
-bytes-example = refl
-
--- "an opcode byte and a 24-bit two's complement operand", as one word
-abbrev pub word : ℕ → ℤ → ℕ
-word opcode (pos k) = opcode * 16777216 + k
-word opcode (negsuc k) = opcode * 16777216 + (16777215 - k)
-
--- the instructions of these sessions, by the paper's opcodes
-abbrev loadc : ℤ → ℕ
-loadc k = word 1 k
-
-abbrev load : ℕ
-load = word 2 (pos 0)
-
-abbrev pop : ℕ
-pop = word 7 (pos 0)
-
-abbrev dup : ℕ
-dup = word 8 (pos 0)
-
-abbrev mul : ℕ
-mul = word 11 (pos 0)
-
-abbrev return : ℕ
-return = word 24 (pos 0)
-
-abbrev create : ℕ
-create = word 26 (pos 0)
-
-abbrev join : ℕ
-join = word 29 (pos 0)
-
-abbrev newmutex : ℕ
-newmutex = word 31 (pos 0)
-
-abbrev lock : ℕ
-lock = word 32 (pos 0)
-
-abbrev unlock : ℕ
-unlock = word 33 (pos 0)
-
--- the image of a card with one global cell
-abbrev pub card : List ℕ → List ℕ
-card list = imageOf 1 list
-
--- for example P10's
-card-example :
-    card (loadc (negsuc 0) ∷ load ∷ [])
-    ≡ 0 ∷ 0 ∷ 0 ∷ 13 ∷ 1 ∷ 0 ∷ 1 ∷ 0 ∷ 2 ∷ 1 ∷ 255 ∷ 255 ∷ 255 ∷ 2 ∷ 0 ∷ 0 ∷ 0 ∷ []
-unfolding wordsBytes
-card-example = refl
 
 -- a thread that has ended, and what it ended with
 pub record Result : Type 0 where
@@ -152,31 +90,11 @@ sessions =
     }
     ∷ []
 
--- two lists agree, member by member, in a test
-unfoldable pub agree : {A : Type 0} → (A → A → Bool) → List A → List A → Bool
-agree test [] [] = true
-agree test [] (y ∷ ys) = false
-agree test (x ∷ xs) [] = false
-agree test (x ∷ xs) (y ∷ ys) = test x y && agree test xs ys
+-- what a row says, in a box of any size: the runner prints the line, and these threads have ended, with these results
+abbrev pub Gives : ℕ → Session → Type 0
+Gives size s =
+    (runnerLine size (s .image) ≡ bytes (s .line)) × (resultsOf size (runnerCall size (judgedPart (s .image)) .box) ≡ s .results)
 
-abbrev pub sameResult : Result → Result → Bool
-sameResult a b = eqb (a .thread) (b .thread) && eqZ (a .value) (b .value)
-
--- one row's test, in the paper's box: the line byte for byte, and the ended threads with their results. The call is named once, so that it is
--- computed once; its line is the one that the runner prints.
-abbrev pub passes : Session → Bool
-passes s =
-    let called : Called = runnerCall full (judgedPart (s .image)) in
-    agree eqb (lineOf full called) (bytesOf (s .line)) && agree sameResult (resultsOf full (called .box)) (s .results)
-
-printed : (image : List ℕ) → lineOf full (runnerCall full (judgedPart image)) ≡ runnerLine full image
-unfolding runnerLine
-printed image = refl
-
--- the test over all rows
-unfoldable pub all : List Session → Bool
-all [] = true
-all (s ∷ rest) = passes s && all rest
-
+-- all of them, in the paper's box
 abbrev pub Hold : Type 0
-Hold = all sessions ≡ true
+Hold = Each (Gives full) sessions

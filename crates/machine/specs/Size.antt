@@ -2,10 +2,6 @@
 use Prim.Native.Nat.{ℕ, _+_, _*_}
 use mathlib.Core.Path.{_≡_, refl}
 
--- the cells of one stack, "128 cells .. numbered 0 to 127"
-abbrev pub stackSize : ℕ
-stackSize = 128
-
 -- the shared cells, which come first in the store
 abbrev pub shared : ℕ → ℕ
 shared size = 128 * size

@@ -8,7 +8,7 @@ use lib.IntN.{ℤ, pos}
 use lib.Signed.{mag}
 use mir.Syntax.{w32}
 use mir.Val.{ofZ, toZ}
-use Rattle.machine.specs.Execution.{eqZ}
+use Rattle.arithmetic.specs.Arithmetic.{eqZ}
 use Rattle.machine.proofs.Equations.{carries, faults, jumpz-is}
 use Rattle.cells.proofs.Tests.{needs-less, needs-met, read-back}
 use Rattle.control.proofs.control.jumpz.Statement.{statement}
