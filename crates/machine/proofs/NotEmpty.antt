@@ -1,5 +1,5 @@
--- None of the laws is empty: an accepted card, and lists of calls after which a mutex has an owner and a waiter, and two wait for a semaphore.
--- Computed. Assumes nothing.
+-- None of the laws is empty: an accepted card, and lists of calls after which a mutex has an owner and a waiter, it is handed on, and two
+-- wait for a semaphore. Computed. Assumes nothing.
 use mathlib.Core.Path.{refl}
 use Rattle.card.specs.Code.{firstBad, wordsOf}
 use Rattle.card.specs.Image.{codeOf, readCode, readOf}
@@ -20,4 +20,4 @@ pub not-empty : NotEmpty
 unfolding
     played setUp runCall run carried exec needs rooms within fits frame opening owns eventOf instructionOf start next left finished tablesOf sliceOf queue anyLive
     first sent owned ownsAny saved allReady keep count toEnd upTo every some allBelow formed wellFormed readOf readCode codeOf firstBad wordsOf wordsBytes
-not-empty = record { accepted = refl; owner = refl; waiters = refl; semaphore = refl; count = refl; in-line = refl }
+not-empty = record { accepted = refl; owner = refl; waiters = refl; released = refl; handed-on = refl; semaphore = refl; count = refl; in-line = refl }

@@ -112,7 +112,7 @@ gone living u t = negate (eqb t u) && living t
 abbrev pub more : (ℕ → ℕ) → ℕ → ℕ → ℕ → ℕ
 more f k n j = cond (eqb j k) (f j + n) (f j)
 
--- newsema enters the number pushed and its starting count; "−1 feeds nothing"
+-- newsema enters the number pushed and its starting count, unless it is −1
 abbrev pub opened : Permits → ℕ → ℤ → Permits
 opened p n (pos k) = record { made = more (p .made) k 1; starting = more (p .starting) k n; ups = p .ups; downs = p .downs }
 opened p n (negsuc k) = p

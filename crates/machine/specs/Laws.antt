@@ -9,10 +9,11 @@ use lib.IntN.{negsuc, pos}
 use lib.ListN.{length}
 use Rattle.card.specs.Image.{readOf}
 use Rattle.card.specs.declared.reader.Reading.the-variants as reading
-use Rattle.machine.specs.Book.{Entry}
+use Rattle.machine.specs.Book.{Entry, unlocks}
 use Rattle.machine.specs.Calls.{Box, Called, answerOf, boxOf, cardOf, countOf, runCall, setUp, stateOf, stepCall, storeFits}
-use Rattle.machine.specs.Cards.{card, create, down, halt, loadc, lock, newmutex, newsema, yield}
-use Rattle.machine.specs.Played.{Call, callOf, played, runOn}
+use Rattle.machine.specs.Cards.{card, create, down, loadc, lock, newmutex, newsema, unlock, yield}
+use Rattle.machine.specs.Order.{entryAt}
+use Rattle.machine.specs.Played.{Call, Played, callOf, played, runOn}
 use Rattle.machine.specs.Registers.{isFault, isRunning, stopped, zeros}
 use Rattle.machine.specs.Runner.{lent}
 use Rattle.machine.specs.Size.{full, shared, storeSize, tablesSize, valuesSize}
@@ -127,16 +128,20 @@ AnswersAgain =
     isRunning (box .regs) ≡ false →
     runCall size image m box ≡ record { answer = answerOf (box .regs); trace = []; box = box }
 
--- a card on which two threads want one mutex; the second begins at 7
+-- a card on which two threads want one mutex, and the first hands it on; the second begins at 8
 abbrev pub contended : List ℕ
 contended =
     card
-    (newmutex ∷ lock ∷ loadc (pos 7) ∷ loadc (pos 0) ∷ create ∷ yield ∷ halt
+    (newmutex ∷ lock ∷ loadc (pos 8) ∷ loadc (pos 0) ∷ create ∷ yield ∷ loadc (pos 0) ∷ unlock
     ∷ loadc (pos 0) ∷ lock ∷ [])
 
--- the tables after a run of 8 steps on it, in the paper's box
-abbrev pub contention : Tables
-contention = stateOf full (played full (runOn contended 8 ∷ []) (setUp full contended (lent full) .box) .box) .tables
+-- what two runs on it give, of 8 steps and then of 2, in the paper's box
+abbrev pub contention : Played
+contention = played full (runOn contended 8 ∷ runOn contended 2 ∷ []) (setUp full contended (lent full) .box)
+
+-- the tables between them
+abbrev pub between : Tables
+between = stateOf full (played full (runOn contended 8 ∷ []) (setUp full contended (lent full) .box) .box) .tables
 
 -- a card on which a semaphore with a starting count of 1 is lowered three times, twice by others; these begin at 9 (change request Four)
 abbrev pub lowered : List ℕ
@@ -149,12 +154,14 @@ lowered =
 abbrev pub awaited : State
 awaited = stateOf full (played full (runOn lowered 11 ∷ []) (setUp full lowered (lent full) .box) .box)
 
--- none of this is empty: an accepted card exists, and after a list of calls a mutex has an owner and somebody waits for it; on another two wait for a
--- semaphore, whose count says so
+-- none of this is empty: an accepted card exists, and after a list of calls a mutex has an owner and somebody waits for it, who has it after the
+-- owner's unlock; on another card two wait for a semaphore, whose count says so
 pub record NotEmpty : Type 0 where
   pub accepted : readOf contended ≡ reading.Accepted 1
-  pub owner : ownerOf contention 0 ≡ 0
-  pub waiters : queue contention (atMutex 0) ≡ 1 ∷ []
+  pub owner : ownerOf between 0 ≡ 0
+  pub waiters : queue between (atMutex 0) ≡ 1 ∷ []
+  pub released : entryAt (contention .trace) 9 ≡ record { thread = 0; event = unlocks 0 }
+  pub handed-on : ownerOf (stateOf full (contention .box) .tables) 0 ≡ 1
   pub semaphore : awaited .regs .semaphores ≡ 1
   pub count : semaphoreCount full (awaited .values) 0 ≡ negsuc 1
   pub in-line : queue (awaited .tables) (atSemaphore full 0) ≡ 1 ∷ 0 ∷ []

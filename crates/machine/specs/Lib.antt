@@ -15,8 +15,8 @@ pub mod Fair
 pub mod Runner
 pub mod Cards
 pub mod Sessions
-pub mod Laws
 pub mod Order
 pub mod Demand
+pub mod Laws
 pub mod Semaphores
 pub mod Mistakes

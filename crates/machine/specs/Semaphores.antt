@@ -1,5 +1,5 @@
 -- What change request Four asks to be shown of semaphores, over the same lists of calls as demand 3. The proofs are in proofs/Semaphores.antt and
--- proofs/Passing.antt.
+-- proofs/Permitted.antt.
 use Prim.Native.Nat.{ℕ, suc, _<_, _≤_}
 use mathlib.Core.Bool.{cond}
 use mathlib.Core.List.{List, []}
