@@ -8,8 +8,6 @@ use std::sync::OnceLock;
 
 /// The longest listing has so many bytes: `cells 4096` and 4,096 lines like `0000 loadc -8388608`.
 pub const LONGEST: usize = 81_931;
-/// The importing program looks at so many bytes of its input at most.
-pub const TEXT_INPUT: usize = LONGEST + 1;
 
 /// A mistake of the listing.
 #[derive(Clone, Copy, PartialEq, Eq, Debug)]

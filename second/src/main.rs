@@ -1,7 +1,7 @@
 //! The command `second`. README.md says what its uses print.
 
 use second::cards::card;
-use second::listing::{card_text, hexadecimal, import, import_line, listing, TEXT_INPUT};
+use second::listing::{card_text, hexadecimal, import, import_line, listing};
 use second::listing::{ImportMistake, ListingMistake};
 use second::machine::{read, Mistake};
 use second::sessions::sessions;
@@ -80,7 +80,7 @@ fn dispatch(words: &mut Vec<String>) -> Result<ExitCode, Trouble> {
     match words[..] {
         ["run", file] => writeln!(out, "{}", runner_line(&start_of(file, INPUT)?, None))?,
         ["list", file] => out.write_all(listing(&start_of(file, INPUT)?, None).as_bytes())?,
-        ["import", file] => match import(&start_of(file, TEXT_INPUT)?, None) {
+        ["import", file] => match import(&std::fs::read(file)?, None) {
             Ok(image) => out.write_all(&image)?,
             Err(refusal) => writeln!(out, "{}", refusal_line(refusal))?,
         },

@@ -73,7 +73,7 @@ fn list_looks_at_16394_bytes() {
 }
 
 #[test]
-fn import_looks_at_81932_bytes() {
+fn import_looks_at_the_whole_text() {
     let import = |text: &[u8]| printed(&["import", "/dev/stdin"], text);
     assert_eq!(import(P2_TEXT), image("loadc 7, exit"));
     assert_eq!(import(b""), b"refused 40 0\n");
@@ -81,15 +81,12 @@ fn import_looks_at_81932_bytes() {
     let full = image_with(4096, "4096*loadc -8388608");
     let mut longest = listing(&full, None).into_bytes();
     assert_eq!(import(&longest), full);
-    // What follows is seen, but only its first byte: here it makes a line of its own.
-    longest.extend(b"\n\n\n");
-    assert_eq!(import(&longest), b"refused 41 81931\n");
-    // Of 4,097 good lines the last one is seen in part, in a stream whole.
-    longest.truncate(LONGEST);
-    longest.extend(b"4096 halt\n");
-    assert_eq!(import(&longest), b"refused 41 81931\n");
+    longest.extend(b"4096 loadc -8388608\n");
+    assert_eq!(import(&longest), b"refused 3 5\n");
+    longest.extend(b"\n");
+    assert_eq!(import(&longest), b"refused 41 81951\n");
     let stream = framed(&[longest]);
-    assert_eq!(printed(&["imports"], &stream), b"refused 3 5\n");
+    assert_eq!(printed(&["imports"], &stream), b"refused 41 81951\n");
 }
 
 #[test]

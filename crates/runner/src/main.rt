@@ -1,17 +1,20 @@
-// The runner: reads a card image on standard input, runs it and prints one line. An input that cannot be read counts as empty.
-use libc::STDIN_FILENO;
-use libc::STDOUT_FILENO;
+// The runner: reads a card image on standard input, runs it and prints one line.
 use line::Line;
 
-fn print(input: &[u8]) {
+// False where the line can't be written.
+fn print(input: &[u8]) -> bool {
     let mut out = [0u8; line::ROOM];
-    if let Line::Written { length } = line::runner_line(input, &mut out) {
-        io::write_all(STDOUT_FILENO, &out[..length]);
-    }
+    let Line::Written { length } = line::runner_line(input, &mut out) else {
+        return false;
+    };
+    stdio::write(&out[..length])
 }
 
 fn main() {
     let mut input = io::large_buffer();
-    let got = io::read_full(STDIN_FILENO, &mut input);
-    print(&input[..got]);
+    let got = stdio::read(b"runner", &mut input);
+    let length = got.length;
+    if !got.failed {
+        stdio::report(b"runner", print(&input[..length]));
+    }
 }

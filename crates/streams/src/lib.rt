@@ -16,14 +16,16 @@ pub enum Show {
     Image,
 }
 
-fn runner_line(image: &[u8]) {
+fn runner_line(image: &[u8]) -> bool {
     let mut out = [0u8; line::ROOM];
-    if let Line::Written { length } = line::runner_line(image, &mut out) {
-        print::start(&out, length);
-    }
+    let Line::Written { length } = line::runner_line(image, &mut out) else {
+        return false;
+    };
+    print::start(&out, length)
 }
 
-fn print_frame(show: Show, frame: &[u8]) {
+// False where it can't be written.
+fn print_frame(show: Show, frame: &[u8]) -> bool {
     match show {
         Show::Line => runner_line(frame),
         Show::Text => print::text(frame),
@@ -31,15 +33,15 @@ fn print_frame(show: Show, frame: &[u8]) {
     }
 }
 
-// Prints what the next frame comes to. False where there is none.
+// Prints what the next frame comes to. False where there is none, or it can't be written.
 fn print_next(show: Show, buffer: &mut [u8]) -> bool {
     let Frame::Image { length } = frames::next(buffer) else {
         return false;
     };
-    if length <= buffer.len() {
-        print_frame(show, &buffer[0..length]);
+    if buffer.len() < length {
+        return false;
     }
-    true
+    print_frame(show, &buffer[0..length])
 }
 
 // Goes through a stream, of which each frame has room in the buffer.

@@ -2,7 +2,6 @@
 use mathlib.Core.Path.{sym}
 use native.Mathlib.Omega.{arith}
 use borrow.Author.Needs.{needs}
-use lib.ListN.{length}
 use lib.Seq.{length-take-le}
 use Rattle.runner.proofs.print.Statement.{statement}
 use Rattle.runner.proofs.print.Tie as tie
@@ -16,20 +15,20 @@ runner-line-requires c κs = search needs
 enum-known-length : tie.Need-enum-known-length
 enum-known-length c = search needs
 
-array-share-prefix-out : tie.Need-array-share-prefix-out
-array-share-prefix-out c = omega (arith, c .before .before .before .before .runner-line .ensures .inside _ (c .before .length .given .1), c .before .before .before .before .runner-line .kept .1 .0)
-
-slice-aggregate-write-all : tie.Need-slice-aggregate-write-all
-slice-aggregate-write-all c = sym (length-take-le _ _ (array-share-prefix-out (c .before)))
-
-write-all-requires : tie.Need-write-all-requires
-write-all-requires c κs = search needs
-
 enum-told : tie.Need-enum-told
 enum-told c = search needs
 
 returns : tie.Need-returns
 returns c = search needs
+
+array-share-prefix-out : tie.Need-array-share-prefix-out
+array-share-prefix-out c = omega (arith, c .before .before .before .before .runner-line .ensures .inside _ (c .before .length .given .1), c .before .before .before .before .runner-line .kept .1 .0)
+
+slice-aggregate-write : tie.Need-slice-aggregate-write
+slice-aggregate-write c = sym (length-take-le _ _ (array-share-prefix-out (c .before)))
+
+write-requires : tie.Need-write-requires
+write-requires c κs = search needs
 
 returns-2 : tie.Need-returns-2
 returns-2 c = search needs
@@ -41,9 +40,9 @@ print-spec =
     slice-aggregate-runner-line
     runner-line-requires
     enum-known-length
-    array-share-prefix-out
-    slice-aggregate-write-all
-    write-all-requires
     enum-told
     returns
+    array-share-prefix-out
+    slice-aggregate-write
+    write-requires
     returns-2)
