@@ -12,7 +12,7 @@ fn print(text: &[u8]) -> bool {
     let mut image = [0u8; LONGEST_IMAGE];
     match importer::import(text, &mut image) {
         Importing::Imported { size } => print::start(&image, size),
-        Importing::Refused { number, place } => print::refusal(number, place),
+        Importing::Refused { number, place } => print::refusal(number as usize, place),
     }
 }
 

@@ -23,9 +23,9 @@ pub fn start(text: &[u8], length: usize) -> bool {
 }
 
 // The line of a refusal.
-pub fn refusal(number: u32, place: usize) -> bool {
+pub fn refusal(number: usize, place: usize) -> bool {
     let mut out = [0u8; line::ROOM];
-    let length = line::put_refused(&mut out, number as usize, place);
+    let length = line::put_refused(&mut out, number, place);
     start(&out, length)
 }
 
@@ -47,7 +47,7 @@ fn text_line(image: &[u8], line: usize) -> Printed {
     match lister::list_line(image, line, &mut out) {
         Listing::Written { length } => then(start(&out, length), Printed::Written),
         Listing::Past => Printed::Ended,
-        Listing::Refused { number, place } => then(refusal(number, place), Printed::Ended),
+        Listing::Refused { number, place } => then(refusal(number as usize, place), Printed::Ended),
     }
 }
 
@@ -101,6 +101,6 @@ pub fn imported(text: &[u8]) -> bool {
     let mut image = [0u8; LONGEST_IMAGE];
     match importer::import(text, &mut image) {
         Importing::Imported { size } => hex_start(&image, size),
-        Importing::Refused { number, place } => refusal(number, place),
+        Importing::Refused { number, place } => refusal(number as usize, place),
     }
 }
