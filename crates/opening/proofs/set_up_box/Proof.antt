@@ -11,60 +11,46 @@ use Rattle.outcome.proofs.no_registers.Reads as no-registers-reads
 use Rattle.outcome.proofs.refused.Reads as refused-reads
 use Rattle.setup.proofs.start.Reads as start-reads
 
--- src/opening.rt:16:11
 read-requires : tie.Need-read-requires
 read-requires c κs = search needs
 
--- src/opening.rt:17:28
 enum-known-number : tie.Need-enum-known-number
 enum-known-number c = search needs
 
--- src/opening.rt:17:55
 cast-refused : tie.Need-cast-refused
 cast-refused c = search needs
 
--- src/opening.rt:17:79
 no-registers-requires : tie.Need-no-registers-requires
 no-registers-requires c κs = search needs
 
--- src/opening.rt:17:47
 refused-requires : tie.Need-refused-requires
 refused-requires c κs = search needs
 
--- src/opening.rt:18:29
 enum-known-cells : tie.Need-enum-known-cells
 enum-known-cells c = search needs
 
--- src/opening.rt:19:31
 mul-if1 : tie.Need-mul-if1
 mul-if1 c = search needs
 
--- src/opening.rt:20:38
 no-registers-requires-2 : tie.Need-no-registers-requires-2
 no-registers-requires-2 c κs = search needs
 
--- src/opening.rt:20:17
 refused-requires-2 : tie.Need-refused-requires-2
 refused-requires-2 c κs = search needs
 
--- src/opening.rt:20:17
 returns : tie.Need-returns
 returns c =
     misfit _ _ _ _ _ _ _ (sym (c .before .before .before .before .before .before .read .ensures) ∙ c .before .before .before .before .cells .given .1) (c .before .before .if1 .taken) (c .refused2 .ensures ∙ ap (refusal 6 0) (c .before .no-registers2 .ensures))
 
--- src/opening.rt:22:32
 mul-if2 : tie.Need-mul-if2
 mul-if2 c = search needs
 
--- src/opening.rt:23:38
 no-registers-requires-3 : tie.Need-no-registers-requires-3
 no-registers-requires-3 c κs = search needs
 
--- src/opening.rt:23:17
 refused-requires-3 : tie.Need-refused-requires-3
 refused-requires-3 c κs = search needs
 
--- src/opening.rt:23:17
 returns-2 : tie.Need-returns-2
 returns-2 c =
     misfit-tables _ _ _ _ _ _ _ (sym (c .before .before .before .before .before .before .before .read .ensures) ∙ c .before .before .before .before .before .cells .given .1) (c .before .before .before .if1 .left) (c .before .before .if2 .taken) (c .refused3 .ensures ∙ ap (refusal 7 0) (c .before .no-registers3 .ensures))
@@ -72,45 +58,35 @@ returns-2 c =
 mul-if3 : tie.Need-mul-if3
 mul-if3 c = search needs
 
--- src/opening.rt:26:38
 no-registers-requires-4 : tie.Need-no-registers-requires-4
 no-registers-requires-4 c κs = search needs
 
--- src/opening.rt:26:17
 refused-requires-4 : tie.Need-refused-requires-4
 refused-requires-4 c κs = search needs
 
--- src/opening.rt:26:17
 returns-3 : tie.Need-returns-3
 returns-3 c =
     misfit-values _ _ _ _ _ _ _ (sym (c .before .before .before .before .before .before .before .before .read .ensures) ∙ c .before .before .before .before .before .before .cells .given .1) (c .before .before .before .before .if1 .left) (c .before .before .before .if2 .left) (c .before .before .if3 .taken) (c .refused4 .ensures ∙ ap (refusal 7 0) (c .before .no-registers4 .ensures))
 
--- src/opening.rt:28:71
 cast-start : tie.Need-cast-start
 cast-start c = search needs
 
--- src/opening.rt:28:17
 start-requires : tie.Need-start-requires
 start-requires c κs = search needs
 
--- src/opening.rt:11:1
 returns-4 : tie.Need-returns-4
 returns-4 c =
     unread _ _ _ _ _ _ _ _ (sym (c .before .before .before .before .before .read .ensures) ∙ c .before .before .before .number .given .1) (c .refused .ensures ∙ ap (refusal _ _) (c .before .no-registers .ensures))
 
--- src/opening.rt:11:1
 same-length : tie.Need-same-length
 same-length c = search needs
 
--- src/opening.rt:11:1
 same-length-2 : tie.Need-same-length-2
 same-length-2 c = search needs
 
--- src/opening.rt:11:1
 same-length-3 : tie.Need-same-length-3
 same-length-3 c = search needs
 
--- src/opening.rt:11:1
 returns-5 : tie.Need-returns-5
 returns-5 c =
     opened _ _ _ _ _ _ _ _ _ _ (sym (c .before .before .before .before .before .before .before .before .before .before .before .before .before .before .read .ensures) ∙ c .before .before .before .before .before .before .before .before .before .before .before .before .cells .given .1) (c .before .before .before .before .before .before .before .before .before .before .if1 .left) (c .before .before .before .before .before .before .before .before .before .if2 .left) (c .before .before .before .before .before .before .before .before .if3 .left) (c .before .before .before .before .start .ensures)
