@@ -1,2 +1,4 @@
 pub mod Tests
 pub mod Names
+pub mod Opened
+pub mod Fits

@@ -1,2 +1,3 @@
 pub mod Contract
+pub mod Openings
 pub mod Top

@@ -6,12 +6,13 @@ ghost use lib.IntN.{pos};
 ghost use lib.ListN.{getD, length, set};
 ghost use Rattle.machine.specs.Size.{stackAt};
 ghost use Rattle.cells.specs.Contract.{CellOf};
+use machine::sizes;
 
 pub fn peek(store: &[i32], size: usize, t: usize, i: usize) -> i32
     requires { ⌜ CellOf size t i (length (now store)) ⌝ }
     ensures { λ r. ⌜ r ≡ getD (now (store .entry)) (stackAt size t i) (pos 0) ⌝ }
 {
-    let at = 128 * (size + t);
+    let at = sizes::STACK * (size + t);
     let stack = &store[at..];
     stack[i]
 }
@@ -20,7 +21,7 @@ pub fn poke(store: &mut [i32], size: usize, t: usize, i: usize, v: i32)
     requires { ⌜ CellOf size t i (length (now store)) ⌝ }
     ensures { λ _. ⌜ now (store .exit) ≡ set (now (store .entry)) (stackAt size t i) v ⌝ }
 {
-    let at = 128 * (size + t);
+    let at = sizes::STACK * (size + t);
     let stack = &mut store[at..];
     stack[i] = v;
 }

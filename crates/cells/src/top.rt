@@ -1,4 +1,4 @@
-// Numbers of threads, mutexes and conditions as an instruction finds them on the stack, and the stack with its top popped.
+// Numbers of threads, mutexes, conditions and semaphores as an instruction finds them on the stack, and the stack with its top popped.
 ghost use mathlib.Core.Path.{_≡_};
 ghost use Prim.Native.Nat.{_-_, _<_, _≤_};
 ghost use lib.ListN.{length};
@@ -9,6 +9,7 @@ use crate::cells::peek;
 use crate::index::Index;
 use crate::index::checked;
 use machine::Registers;
+use machine::faults;
 
 pub enum Named {
     Number(usize),
@@ -31,7 +32,7 @@ pub fn number_at(
 {
     let cells = r.cells;
     if cells < at {
-        return Named::Fault(21);
+        return Named::Fault(faults::STACK_UNDERFLOW);
     }
     let v = peek(store, size, r.thread, cells - at);
     let Index::In(i) = checked(v, limit) else {

@@ -6,6 +6,7 @@ ghost use Rattle.conditions.specs.Numbers.{conditionNamed, topCondition}
 use cells::Named;
 use machine::Condition;
 use machine::Registers;
+use machine::faults;
 
 pub enum ACondition {
     Made(Condition),
@@ -17,7 +18,7 @@ pub fn a_condition(store: &[i32], size: usize, r: Registers) -> ACondition
     requires { ⌜ Able size r (length (now store)) ⌝ }
     ensures { λ c. ⌜ topCondition size (now (store .entry)) r ≡ conditionNamed c ⌝ }
 {
-    match cells::number_at(store, size, r, 1, r.conditions, 32) {
+    match cells::number_at(store, size, r, 1, r.conditions, faults::NO_CONDITION) {
         Named::Number(c) => ACondition::Made(Condition(c)),
         Named::Fault(number) => ACondition::Fault(number),
     }

@@ -8,12 +8,14 @@ use cells::checked;
 use cells::peek;
 use cells::poke;
 use machine::Registers;
+use machine::faults;
+use machine::states;
 
 pub fn halt(r: Registers) -> Registers
     requires { ⌜ r .pc < 4096 ⌝ }
     ensures { λ q. ⌜ DoesAnywhere halt r q ⌝ }
 {
-    r.advance().with_state(0, r.thread)
+    r.advance().with_state(states::HALTED, r.thread)
 }
 
 pub fn jump(r: Registers, a: usize) -> Registers
@@ -28,7 +30,7 @@ pub fn jumpz(store: &[i32], size: usize, r: Registers, a: usize) -> Registers
 {
     let cells = r.cells;
     if cells < 1 {
-        return r.stop(21);
+        return r.stop(faults::STACK_UNDERFLOW);
     }
     let top = peek(store, size, r.thread, cells - 1);
     let popped = r.advance().with_cells(cells - 1);
@@ -45,12 +47,12 @@ pub fn call(store: &mut [i32], size: usize, r: Registers, n: usize) -> Registers
 {
     let cells = r.cells;
     if cells < 3 {
-        return r.stop(21);
+        return r.stop(faults::STACK_UNDERFLOW);
     }
     let top = peek(store, size, r.thread, cells - 1);
     let past = r.advance();
     let Index::In(a) = checked(top, n) else {
-        return r.stop(25);
+        return r.stop(faults::BAD_TARGET);
     };
     poke(store, size, r.thread, cells - 1, past.pc as i32);
     past.with_fp(cells - 1).with_pc(a)

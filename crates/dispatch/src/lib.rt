@@ -1,7 +1,8 @@
 // The dispatcher: the instruction of each opcode that is not one of the running thread alone. Inner: the engine calls it on a running machine.
 ghost use Prim.Native.Nat.{_≤_};
 ghost use lib.ListN.{length};
-ghost use Rattle.dispatch.specs.Contract.{Executes, Working};
+ghost use Rattle.cells.specs.Contract.{ChangesIn};
+ghost use Rattle.dispatch.specs.Contract.{Working};
 ghost use Rattle.local.specs.Contract.{Others, Permitted};
 ghost use Rattle.machine.specs.Instructions.{instructionOf};
 use machine::Registers;
@@ -20,7 +21,7 @@ pub fn execute(
     requires { ⌜ Permitted opcode operand ⌝ }
     requires { ⌜ Others opcode ⌝ }
     requires { ⌜ opcode ≤ 40 ⌝ }
-    ensures { λ q. ⌜ Executes size n (instructionOf opcode operand) (now (store .entry)) (now (tables .entry)) (now (values .entry)) r (now (store .exit)) (now (tables .exit)) (now (values .exit)) q ⌝ }
+    ensures { λ q. ⌜ ChangesIn size n (instructionOf opcode operand) (now (store .entry)) (now (tables .entry)) (now (values .entry)) r (now (store .exit)) (now (tables .exit)) (now (values .exit)) q ⌝ }
 {
     match opcode {
         0 => control::halt(r),

@@ -9,6 +9,7 @@ ghost use Rattle.tables.specs.Good.{Good};
 ghost use Rattle.endings.specs.Contract.{Ends};
 use machine::Registers;
 use machine::Thread;
+use machine::faults;
 use threads::AThread;
 use threads::a_thread;
 use threads::block;
@@ -61,10 +62,10 @@ pub fn exit(
 {
     let cells = r.cells;
     if cells < 1 {
-        return r.stop(21);
+        return r.stop(faults::STACK_UNDERFLOW);
     }
     if tables::owns_any(tables, size, Thread(r.thread)) {
-        return r.stop(31);
+        return r.stop(faults::STILL_OWNER);
     }
     let top = cells::peek(store, size, r.thread, cells - 1);
     finish(tables, values, size, r.advance(), top)
@@ -106,7 +107,7 @@ pub fn finalize(
         AThread::Made(t) => {
             let place = tables::place(tables, size, t);
             if place != ENDED {
-                return r.stop(29);
+                return r.stop(faults::NOT_ENDED);
             }
             let v = cells::read(values, t.0);
             let cells = r.cells;

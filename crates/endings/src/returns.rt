@@ -5,10 +5,12 @@ ghost use lib.ListN.{length};
 ghost use Rattle.machine.specs.Instructions.{return};
 ghost use Rattle.cells.specs.Contract.{Able, ChangesIn};
 ghost use Rattle.tables.specs.Good.{Good};
-use crate::ends::finish;
 use cells::Index;
+use crate::ends::finish;
 use machine::Registers;
 use machine::Thread;
+use machine::faults;
+use machine::sizes;
 
 pub fn return_from(
     store: &[i32],
@@ -25,25 +27,25 @@ pub fn return_from(
 {
     let fp = r.fp;
     if r.cells <= fp {
-        return r.stop(26);
+        return r.stop(faults::BAD_FRAME);
     }
     let caller = cells::peek(store, size, r.thread, fp - 1);
     if caller == -1 {
         if tables::owns_any(tables, size, Thread(r.thread)) {
-            return r.stop(31);
+            return r.stop(faults::STILL_OWNER);
         }
         let v = cells::peek(store, size, r.thread, fp - 2);
         return finish(tables, values, size, r.advance(), v);
     }
     let Index::In(old) = cells::checked(caller, fp) else {
-        return r.stop(26);
+        return r.stop(faults::BAD_FRAME);
     };
-    if old < 2 {
-        return r.stop(26);
+    if old < sizes::NEW_FP {
+        return r.stop(faults::BAD_FRAME);
     }
     let after = cells::peek(store, size, r.thread, fp);
     let Index::In(pc) = cells::checked(after, n) else {
-        return r.stop(26);
+        return r.stop(faults::BAD_FRAME);
     };
     r.advance().with_cells(fp - 1).with_fp(old).with_pc(pc)
 }

@@ -9,10 +9,8 @@ ghost use Rattle.machine.specs.Laws.{Sound};
 use crate::progress::Progress;
 use crate::stretches::stretch;
 use machine::Registers;
-
-const RUNNING: usize = 1;
-
-const FAULTED: usize = 3;
+use machine::faults;
+use machine::states;
 
 // Carries out the instruction at PC, which ended a stretch, or stops with a fault.
 fn carry(
@@ -33,7 +31,7 @@ fn carry(
 {
     let pc = r.pc;
     if n <= pc {
-        return r.stop(20);
+        return r.stop(faults::NO_INSTRUCTION);
     }
     let i = card::fetch(code, pc);
     dispatch::execute(store, tables, values, size, n, r, i.opcode, i.operand)
@@ -61,11 +59,11 @@ fn onward(
         return p;
     }
     let reached = p.registers;
-    if reached.state != RUNNING {
+    if reached.state != states::RUNNING {
         return p;
     }
     let registers = carry(code, store, tables, values, size, n, reached);
-    if registers.state == FAULTED {
+    if registers.state == states::FAULTED {
         return Progress { registers, count };
     }
     Progress {
@@ -93,7 +91,7 @@ pub fn run(
     let mut registers = r;
     let mut count = 0;
     while count < m {
-        if registers.state != RUNNING {
+        if registers.state != states::RUNNING {
             return Progress { registers, count };
         }
         let p = onward(code, store, tables, values, size, n, registers, m - count);

@@ -5,10 +5,7 @@ ghost use Rattle.engine.specs.Contract.{Carded, Housed, Stretched};
 use crate::progress::Progress;
 use local::Local;
 use machine::Registers;
-
-const RUNNING: usize = 1;
-
-const FAULTED: usize = 3;
+use machine::states;
 
 // Runs a machine for at most `m` instructions, until it stops or another instruction comes.
 pub fn stretch(
@@ -27,7 +24,7 @@ pub fn stretch(
     let mut registers = r;
     let mut count = 0;
     while count < m {
-        if registers.state != RUNNING {
+        if registers.state != states::RUNNING {
             return Progress { registers, count };
         }
         let pc = registers.pc;
@@ -40,7 +37,7 @@ pub fn stretch(
             return Progress { registers, count };
         };
         registers = after;
-        if registers.state == FAULTED {
+        if registers.state == states::FAULTED {
             return Progress { registers, count };
         }
         count += 1;

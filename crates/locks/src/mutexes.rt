@@ -12,17 +12,19 @@ use machine::First;
 use machine::Mutex;
 use machine::Registers;
 use machine::Thread;
+use machine::faults;
+use machine::sizes;
 
 pub fn newmutex(store: &mut [i32], size: usize, r: Registers) -> Registers
     requires { ⌜ Able size r (length (now store)) ⌝ }
     ensures { λ q. ⌜ Does size newmutex (now (store .entry)) r (now (store .exit)) q ⌝ }
 {
-    if 127 < r.cells {
-        return r.stop(22);
+    if sizes::LAST_CELL < r.cells {
+        return r.stop(faults::STACK_OVERFLOW);
     }
     let made = r.mutexes;
     let q = push_number(store, size, r, made);
-    if made < 2 * size {
+    if made < sizes::MUTEXES * size {
         q.with_made(r.threads, made + 1, r.conditions)
     } else {
         q
@@ -62,7 +64,7 @@ pub fn unlock(store: &[i32], tables: &mut [usize], size: usize, r: Registers) ->
         AMutex::Made(m) => {
             let owner = tables::owner(tables, size, m);
             if owner != r.thread {
-                return r.stop(28);
+                return r.stop(faults::NOT_OWNER);
             }
             unlock_mutex(tables, size, m);
             cells::popped(r)

@@ -7,6 +7,8 @@ ghost use Rattle.locks.specs.Numbers.{Numbers, mutexAt, mutexNamed, next
 use cells::Named;
 use machine::Mutex;
 use machine::Registers;
+use machine::faults;
+use machine::sizes;
 
 pub enum AMutex {
     Made(Mutex),
@@ -19,7 +21,7 @@ pub fn a_mutex(store: &[i32], size: usize, r: Registers, at: usize) -> AMutex
     requires { ⌜ 1 ≤ at ⌝ }
     ensures { λ m. ⌜ mutexAt size (now (store .entry)) r at ≡ mutexNamed m ⌝ }
 {
-    match cells::number_at(store, size, r, at, r.mutexes, 27) {
+    match cells::number_at(store, size, r, at, r.mutexes, faults::NO_MUTEX) {
         Named::Number(m) => AMutex::Made(Mutex(m)),
         Named::Fault(number) => AMutex::Fault(number),
     }
@@ -40,6 +42,6 @@ pub fn push_number(store: &mut [i32], size: usize, r: Registers, made: usize) ->
     ensures { λ q. ⌜ Numbers size made (now (store .entry)) r (now (store .exit)) q ⌝ }
 {
     let cells = r.cells;
-    cells::poke(store, size, r.thread, cells, next_number(made, 2 * size));
+    cells::poke(store, size, r.thread, cells, next_number(made, sizes::MUTEXES * size));
     r.advance().with_cells(cells + 1)
 }

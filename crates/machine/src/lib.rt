@@ -2,6 +2,9 @@
 mod answers;
 mod numbers;
 mod registers;
+pub mod faults;
+pub mod sizes;
+pub mod states;
 
 pub use answers::Answer;
 pub use numbers::Condition;

@@ -3,6 +3,7 @@ ghost use mathlib.Core.Path.{_≡_};
 ghost use Prim.Native.Nat.{_≤_};
 ghost use Rattle.machine.specs.Registers.{advanced, stopped, switched, withCells, withFp, withFree, withMade, withPc, withSemaphores, withState};
 use crate::numbers::Thread;
+use crate::states;
 
 // The order of the fields is for speed: with those that an instruction changes far apart, the compiler keeps each in a register of its own
 // instead of copying several as one block.
@@ -18,7 +19,7 @@ pub struct Registers {
     // The running thread, or the number of threads of the box where none runs.
     pub thread: usize,
     pub conditions: usize,
-    // 0 halted, 1 running, 2 stuck, 3 faulted.
+    // One of `states`.
     pub state: usize,
     // The number of the fault, 0 where there is none.
     pub fault: usize,
@@ -51,7 +52,7 @@ impl Registers {
     pub fn stop(mut self, number: usize) -> Self
         ensures { λ r. ⌜ r ≡ stopped self number ⌝ }
     {
-        self.state = 3;
+        self.state = states::FAULTED;
         self.fault = number;
         self
     }

@@ -9,35 +9,20 @@ use lib.IntN.{ℤ, pos, negsuc, negℤ}
 use lib.Signed.{mag}
 use Rattle.arithmetic.specs.Arithmetic.{eqZ, narrowed}
 use Rattle.arithmetic.specs.declared.Number.{Number}
-use Rattle.arithmetic.specs.declared.Number.the-variants.{Value, Beyond}
+use Rattle.arithmetic.specs.declared.Number.the-variants.{Beyond}
 use Rattle.machine.specs.Execution.{Outcome, combined, compared, divides, done, exec, fault, fits, needs, replaced}
 use Rattle.machine.specs.Instructions.{instructionOf, neg}
 use Rattle.machine.specs.State.{State, below, top}
 use Rattle.machine.proofs.Equations.{add-is, sub-is, mul-is, div-is, mod-is, neg-is, eq-is, neq-is, less-is, leq-is}
 use Rattle.machine.proofs.Lists.{same-or-not}
-use Rattle.operators.specs.Operators.{computed, divided, numbered, tested}
+use Rattle.cells.proofs.Fits.{fits-is, numbered}
+use Rattle.operators.specs.Operators.{computed, divided, tested}
 
 -- a number that does not test as 0 is not 0
 pub not-zero : (b : ℤ) → eqZ b (pos 0) ≡ false → b ≡ pos 0 → ⊥
 not-zero b e z = let never : _≡_ {A = Bool} true false = rw z at e in let y : _≡_ {A = ℕ} 0 1 = cc in omega arith
 
--- a result that must fit is one that was narrowed
-fits-is : (v : ℤ) (f : ℤ → Outcome) → fits v f ≡ numbered (narrowed v) f
-unfolding fits
-fits-is v f = by-test (ltb (mag v) 2147483648)
-  where
-    by-test : (t : Bool) → cond t (f v) (fault 24) ≡ numbered (cond t (Value v) Beyond) f
-    by-test true = refl
-    by-test false = refl
-
--- an outcome by the number that was answered
-pub numbered-value : (v : Number) (f : ℤ → Outcome) (x : ℤ) → v ≡ Value x → numbered v f ≡ f x
-numbered-value v f x e = rw e
-
-pub numbered-beyond : (v : Number) (f : ℤ → Outcome) → v ≡ Beyond → numbered v f ≡ fault 24
-numbered-beyond v f e = rw e
-
--- the same where a divisor must not be 0
+-- a result that must fit, of a divisor that must not be 0
 divides-is : (b v : ℤ) (f : ℤ → Outcome) → divides b (fits v f) ≡ numbered (cond (eqZ b (pos 0)) Beyond (narrowed v)) f
 unfolding divides
 divides-is (pos zero) v f = refl

@@ -1,4 +1,4 @@
--- The operations and the tests by their opcodes, and the outcome of an instruction by the number that an operation answered.
+-- The operations and the tests by their opcodes.
 use Prim.Native.Nat.{ℕ}
 use mathlib.Core.Bool.{Bool, cond, not as negate}
 use lib.Dec.{eqb}
@@ -6,8 +6,7 @@ use lib.IntN.{ℤ, pos, _+ℤ_, _-ℤ_, _*ℤ_}
 use lib.Signed.{leZ, ltZ, quotZ, remZ}
 use Rattle.arithmetic.specs.Arithmetic.{eqZ, narrowed}
 use Rattle.arithmetic.specs.declared.Number.{Number}
-use Rattle.arithmetic.specs.declared.Number.the-variants.{Value, Beyond}
-use Rattle.machine.specs.Execution.{Outcome, fault}
+use Rattle.arithmetic.specs.declared.Number.the-variants.{Beyond}
 
 -- opcodes 12 and 13: "number beyond 32 bits or zero divisor" are one fault
 unfoldable pub divided : ℕ → ℤ → ℤ → Number
@@ -23,8 +22,3 @@ computed op a b =
 unfoldable pub tested : ℕ → ℤ → ℤ → Bool
 tested op a b =
     cond (eqb op 15) (eqZ a b) (cond (eqb op 16) (negate (eqZ a b)) (cond (eqb op 17) (ltZ a b) (leZ a b)))
-
--- an instruction goes on with its number, or is fault 24
-abbrev pub numbered : Number → (ℤ → Outcome) → Outcome
-numbered (Value v) f = f v
-numbered Beyond f = fault 24

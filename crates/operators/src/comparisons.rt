@@ -7,6 +7,7 @@ ghost use Rattle.machine.specs.Instructions.{instructionOf};
 ghost use Rattle.operators.specs.Operators.{tested};
 ghost use Rattle.cells.specs.Contract.{Able, Does};
 use machine::Registers;
+use machine::faults;
 
 fn test(op: u32, a: i32, b: i32) -> bool
     ensures { λ r. ⌜ r ≡ tested op a b ⌝ }
@@ -28,7 +29,7 @@ pub fn compare(store: &mut [i32], size: usize, r: Registers, op: u32) -> Registe
 {
     let cells = r.cells;
     if cells < 2 {
-        return r.stop(21);
+        return r.stop(faults::STACK_UNDERFLOW);
     }
     let below = cells::peek(store, size, r.thread, cells - 2);
     let top = cells::peek(store, size, r.thread, cells - 1);

@@ -8,6 +8,7 @@ ghost use Rattle.operators.specs.Operators.{computed, divided};
 ghost use Rattle.cells.specs.Contract.{Able, Does};
 use arithmetic::Number;
 use machine::Registers;
+use machine::faults;
 
 // A zero divisor has no result, and is the same fault as one beyond 32 bits.
 fn divide(op: u32, a: i32, b: i32) -> Number
@@ -43,12 +44,12 @@ pub fn binary(store: &mut [i32], size: usize, r: Registers, op: u32) -> Register
 {
     let cells = r.cells;
     if cells < 2 {
-        return r.stop(21);
+        return r.stop(faults::STACK_UNDERFLOW);
     }
     let below = cells::peek(store, size, r.thread, cells - 2);
     let top = cells::peek(store, size, r.thread, cells - 1);
     let Number::Value(v) = compute(op, below, top) else {
-        return r.stop(24);
+        return r.stop(faults::ARITHMETIC);
     };
     cells::poke(store, size, r.thread, cells - 2, v);
     r.advance().with_cells(cells - 1)

@@ -4,6 +4,7 @@ ghost use Rattle.machine.specs.Instructions.{neg, not};
 ghost use Rattle.cells.specs.Contract.{Able, Does};
 use arithmetic::Number;
 use machine::Registers;
+use machine::faults;
 
 pub fn neg(store: &mut [i32], size: usize, r: Registers) -> Registers
     requires { ⌜ Able size r (length (now store)) ⌝ }
@@ -11,11 +12,11 @@ pub fn neg(store: &mut [i32], size: usize, r: Registers) -> Registers
 {
     let cells = r.cells;
     if cells < 1 {
-        return r.stop(21);
+        return r.stop(faults::STACK_UNDERFLOW);
     }
     let top = cells::peek(store, size, r.thread, cells - 1);
     let Number::Value(v) = arithmetic::neg(top) else {
-        return r.stop(24);
+        return r.stop(faults::ARITHMETIC);
     };
     cells::poke(store, size, r.thread, cells - 1, v);
     r.advance()
@@ -27,7 +28,7 @@ pub fn not(store: &mut [i32], size: usize, r: Registers) -> Registers
 {
     let cells = r.cells;
     if cells < 1 {
-        return r.stop(21);
+        return r.stop(faults::STACK_UNDERFLOW);
     }
     let top = cells::peek(store, size, r.thread, cells - 1);
     let v = arithmetic::truth(arithmetic::is_zero(top));

@@ -1,4 +1,4 @@
--- Laws of semaphores: what an outcome leaves, a count that must fit, and what up and down leave. Assumes nothing.
+-- Laws of semaphores: what an outcome leaves, and what up and down leave. Assumes nothing.
 use Prim.Native.Nat.{ℕ, _-_, _<_, _≤_}
 use mathlib.Core.Path.{_≡_, refl, ap, sym, _∙_}
 use mathlib.Core.Bool.{Bool, true, false, cond}
@@ -9,11 +9,8 @@ use lib.Dec.{leb, ltb}
 use lib.IntN.{ℤ, pos, negsuc, _-ℤ_}
 use lib.ListN.{set}
 use lib.Signed.{leZ, ltZ, mag}
-use Rattle.arithmetic.specs.Arithmetic.{narrowed}
-use Rattle.arithmetic.specs.declared.Number.{Number}
-use Rattle.arithmetic.specs.declared.Number.the-variants.{Value, Beyond}
 use Rattle.machine.proofs.Lists.{less-or-not}
-use Rattle.machine.specs.Execution.{Outcome, done, exec, fault, fits, lowered, popped, raised}
+use Rattle.machine.specs.Execution.{Outcome, done, exec, fault, lowered, popped, raised}
 use Rattle.machine.specs.Instructions.{Instruction}
 use Rattle.machine.specs.State.{State, blocked, withCount, withTables}
 use Rattle.machine.specs.Step.{entered, executed, onward}
@@ -28,23 +25,6 @@ lands size n s i o e = by-outcome o ∙ sym (ap (λ (x : Outcome). entered size 
     by-outcome : (x : Outcome) → leaves s x ≡ entered size s (onward s) i x .state
     by-outcome (done u) = refl
     by-outcome (fault k) = refl
-
--- a count that must fit, by the number that was answered
-pub fits-value : (v : ℤ) (f : ℤ → Outcome) (x : ℤ) → narrowed v ≡ Value x → fits v f ≡ f x
-unfolding fits
-fits-value v f x e = by-test (ltb (mag v) 2147483648) e
-  where
-    by-test : (t : Bool) → cond t (Value v) Beyond ≡ Value x → cond t (f v) (fault 24) ≡ f x
-    by-test true k = let same : v ≡ x = cc in ap f same
-    by-test false k = absurd (let z : _≡_ {A = ℕ} 0 1 = cc in omega arith)
-
-pub fits-beyond : (v : ℤ) (f : ℤ → Outcome) → narrowed v ≡ Beyond → fits v f ≡ fault 24
-unfolding fits
-fits-beyond v f e = by-test (ltb (mag v) 2147483648) e
-  where
-    by-test : (t : Bool) → cond t (Value v) Beyond ≡ Beyond → cond t (f v) (fault 24) ≡ fault 24
-    by-test true k = absurd (let z : _≡_ {A = ℕ} 0 1 = cc in omega arith)
-    by-test false k = refl
 
 -- a count is positive or not
 pub positive : (v : ℤ) → ltZ (pos 0) v ≡ true → leZ v (pos 0) ≡ false

@@ -14,6 +14,7 @@ use arithmetic::Number;
 use machine::First;
 use machine::Registers;
 use machine::Semaphore;
+use machine::faults;
 
 // The place of those who wait for a semaphore.
 fn queue_of(size: usize, k: Semaphore) -> usize
@@ -54,7 +55,7 @@ pub fn raise(
     ensures { λ q. ⌜ Comes size (λ n s. raising size n s (k .0)) (now (tables .entry)) (now (values .entry)) r (now (tables .exit)) (now (values .exit)) q ⌝ }
 {
     let Number::Value(raised) = arithmetic::add(counts::count(values, size, k), 1) else {
-        return r.stop(24);
+        return r.stop(faults::ARITHMETIC);
     };
     counts::set_count(values, size, k, raised);
     wake_first(tables, size, k, raised);

@@ -4,6 +4,9 @@ ghost use Prim.Native.Nat.{_≤_};
 ghost use Rattle.machine.specs.Registers.{isFault};
 ghost use Rattle.machine.specs.WellFormed.{countsFit, faultFits, frameFits, inRange, registersFit};
 use machine::Registers;
+use machine::faults;
+use machine::sizes;
+use machine::states;
 
 fn in_range(low: usize, high: usize, x: usize) -> bool
     ensures { λ b. ⌜ b ≡ inRange low high x ⌝ }
@@ -16,14 +19,15 @@ fn counts_fit(r: Registers, size: usize) -> bool
     ensures { λ b. ⌜ b ≡ countsFit size r ⌝ }
 {
     in_range(1, size, r.threads)
-        && (r.mutexes <= 2 * size && (r.conditions <= 2 * size && r.semaphores <= size))
+        && (r.mutexes <= sizes::MUTEXES * size && (r.conditions <= sizes::CONDITIONS * size && r.semaphores <= size))
 }
 
 // PC, the number of cells and FP, of the registers or of a saved thread.
 pub fn frame_fits(pc: usize, cells: usize, fp: usize) -> bool
     ensures { λ b. ⌜ b ≡ frameFits pc cells fp ⌝ }
 {
-    pc <= 4096 && (cells <= 128 && in_range(2, 127, fp))
+    pc <= sizes::INSTRUCTIONS
+        && (cells <= sizes::STACK && in_range(sizes::NEW_FP, sizes::LAST_CELL, fp))
 }
 
 pub fn registers_fit(r: Registers, size: usize) -> bool
@@ -32,21 +36,21 @@ pub fn registers_fit(r: Registers, size: usize) -> bool
 {
     counts_fit(r, size)
         && (frame_fits(r.pc, r.cells, r.fp)
-            && (in_range(1, 128 * size, r.free) && (r.thread < r.threads || r.thread == size)))
+            && (in_range(1, sizes::SHARED * size, r.free) && (r.thread < r.threads || r.thread == size)))
 }
 
 // A number of the table from 20 up.
 fn is_fault(number: usize) -> bool
     ensures { λ b. ⌜ b ≡ isFault number ⌝ }
 {
-    in_range(20, 34, number)
+    in_range(faults::NO_INSTRUCTION, faults::NO_SEMAPHORE, number)
 }
 
 // A faulted machine has the number of its fault, any other has none.
 pub fn fault_fits(r: Registers) -> bool
     ensures { λ b. ⌜ b ≡ faultFits r ⌝ }
 {
-    if r.state == 3 {
+    if r.state == states::FAULTED {
         is_fault(r.fault)
     } else {
         r.fault == 0

@@ -1,3 +1,2 @@
 pub mod Contract
 pub mod Numbers
-pub mod Openings

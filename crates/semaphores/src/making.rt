@@ -5,33 +5,15 @@ ghost use lib.ListN.{length};
 ghost use Rattle.machine.specs.Instructions.{newsema};
 ghost use Rattle.cells.specs.Contract.{Able};
 ghost use Rattle.semaphores.specs.Contract.{DoesWith};
-ghost use Rattle.semaphores.specs.Openings.{openingOf};
-use cells::Index;
+use cells::Opening;
 use machine::Registers;
 use machine::Semaphore;
+use machine::faults;
 
-// What newsema finds: a starting count, with room for the semaphore or without, or a negative one.
-pub enum Opening {
-    Next,
-    Full,
-    Negative,
-}
+// A starting count is any number of 32 bits from 0 up.
+const COUNTS: usize = 2147483648;
 
 // The starting count is tested before the room.
-fn opening_of(v: i32, made: usize, size: usize) -> Opening
-    ensures { λ o. ⌜ o ≡ openingOf v made size ⌝ }
-{
-    let starting = cells::checked(v, 2147483648);
-    let next = threads::next_number(made, size);
-    let Index::In(_count) = starting else {
-        return Opening::Negative;
-    };
-    let Index::In(_number) = next else {
-        return Opening::Full;
-    };
-    Opening::Next
-}
-
 pub fn newsema(store: &mut [i32], values: &mut [i32], size: usize, r: Registers) -> Registers
     requires { ⌜ Able size r (length (now store)) ⌝ }
     requires { ⌜ length (now values) ≡ 2 * size ⌝ }
@@ -39,17 +21,17 @@ pub fn newsema(store: &mut [i32], values: &mut [i32], size: usize, r: Registers)
 {
     let cells = r.cells;
     if cells < 1 {
-        return r.stop(21);
+        return r.stop(faults::STACK_UNDERFLOW);
     }
     let starting = cells::peek(store, size, r.thread, cells - 1);
     let made = r.semaphores;
-    match opening_of(starting, made, size) {
-        Opening::Negative => r.stop(30),
+    match cells::opening_for(starting, COUNTS, made, size) {
+        Opening::Wrong => r.stop(faults::BAD_COUNT),
         Opening::Full => {
             cells::poke(store, size, r.thread, cells - 1, -1);
             r.advance()
         }
-        Opening::Next => {
+        Opening::Room(_) => {
             counts::set_count(values, size, Semaphore(made), starting);
             cells::poke(store, size, r.thread, cells - 1, made as i32);
             r.advance().with_semaphores(made + 1)

@@ -6,6 +6,7 @@ ghost use Rattle.semaphores.specs.Numbers.{semaphoreNamed, topSemaphore}
 use cells::Named;
 use machine::Registers;
 use machine::Semaphore;
+use machine::faults;
 
 pub enum ASemaphore {
     Made(Semaphore),
@@ -17,7 +18,7 @@ pub fn a_semaphore(store: &[i32], size: usize, r: Registers) -> ASemaphore
     requires { ⌜ Able size r (length (now store)) ⌝ }
     ensures { λ k. ⌜ topSemaphore size (now (store .entry)) r ≡ semaphoreNamed k ⌝ }
 {
-    match cells::number_at(store, size, r, 1, r.semaphores, 34) {
+    match cells::number_at(store, size, r, 1, r.semaphores, faults::NO_SEMAPHORE) {
         Named::Number(k) => ASemaphore::Made(Semaphore(k)),
         Named::Fault(number) => ASemaphore::Fault(number),
     }

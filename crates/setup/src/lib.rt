@@ -7,6 +7,8 @@ ghost use Rattle.machine.specs.State.{startTables};
 ghost use Rattle.machine.specs.Tables.{sliceOf};
 ghost use Rattle.setup.specs.Start.{Lent, Roomy, Started, startAt};
 use machine::Registers;
+use machine::sizes;
+use machine::states;
 
 // Clears a slice of cells.
 fn clear(cells: &mut [i32])
@@ -65,12 +67,12 @@ pub fn start(
     start_tables(tables, size);
     clear(values);
     Registers {
-        state: 1,
+        state: states::RUNNING,
         fault: 0,
         thread: 0,
         pc: 0,
-        cells: 3,
-        fp: 2,
+        cells: sizes::NEW_CELLS,
+        fp: sizes::NEW_FP,
         free: cells,
         threads: 1,
         mutexes: 0,

@@ -9,6 +9,8 @@ use cells::poke;
 use cells::read;
 use cells::write;
 use machine::Registers;
+use machine::faults;
+use machine::sizes;
 
 pub fn load(store: &mut [i32], size: usize, r: Registers) -> Registers
     requires { ⌜ Able size r (length (now store)) ⌝ }
@@ -16,11 +18,11 @@ pub fn load(store: &mut [i32], size: usize, r: Registers) -> Registers
 {
     let cells = r.cells;
     if cells < 1 {
-        return r.stop(21);
+        return r.stop(faults::STACK_UNDERFLOW);
     }
     let top = peek(store, size, r.thread, cells - 1);
-    let Index::In(a) = checked(top, 128 * size) else {
-        return r.stop(23);
+    let Index::In(a) = checked(top, sizes::SHARED * size) else {
+        return r.stop(faults::BAD_ADDRESS);
     };
     let v = read(store, a);
     poke(store, size, r.thread, cells - 1, v);
@@ -34,11 +36,11 @@ pub fn store_cell(store: &mut [i32], size: usize, r: Registers) -> Registers
 {
     let cells = r.cells;
     if cells < 2 {
-        return r.stop(21);
+        return r.stop(faults::STACK_UNDERFLOW);
     }
     let top = peek(store, size, r.thread, cells - 1);
-    let Index::In(a) = checked(top, 128 * size) else {
-        return r.stop(23);
+    let Index::In(a) = checked(top, sizes::SHARED * size) else {
+        return r.stop(faults::BAD_ADDRESS);
     };
     let v = peek(store, size, r.thread, cells - 2);
     write(store, a, v);
@@ -52,15 +54,15 @@ pub fn fresh(store: &mut [i32], size: usize, r: Registers) -> Registers
 {
     let cells = r.cells;
     if cells < 1 {
-        return r.stop(21);
+        return r.stop(faults::STACK_UNDERFLOW);
     }
     let top = peek(store, size, r.thread, cells - 1);
     if top < 1 {
-        return r.stop(30);
+        return r.stop(faults::BAD_COUNT);
     }
     let free = r.free;
     let end = free + top as usize;
-    if 128 * size < end {
+    if sizes::SHARED * size < end {
         poke(store, size, r.thread, cells - 1, 0);
         return r.advance();
     }

@@ -3,10 +3,12 @@ ghost use Prim.Native.Nat.{_<_, _≤_};
 ghost use Rattle.machine.specs.Instructions.{alloc, dup, mark, pop};
 ghost use Rattle.cells.specs.Contract.{Able, Does, DoesAnywhere};
 ghost use lib.ListN.{length};
-use crate::constants::loadc;
 use cells::peek;
 use cells::poke;
+use crate::constants::loadc;
 use machine::Registers;
+use machine::faults;
+use machine::sizes;
 
 pub fn alloc(store: &mut [i32], size: usize, r: Registers, k: usize) -> Registers
     requires { ⌜ Able size r (length (now store)) ⌝ }
@@ -15,8 +17,8 @@ pub fn alloc(store: &mut [i32], size: usize, r: Registers, k: usize) -> Register
 {
     let cells = r.cells;
     let end = cells + k;
-    if 128 < end {
-        return r.stop(22);
+    if sizes::STACK < end {
+        return r.stop(faults::STACK_OVERFLOW);
     }
     for i in cells..end {
         poke(store, size, r.thread, i, 0);
@@ -30,7 +32,7 @@ pub fn pop(r: Registers) -> Registers
 {
     let cells = r.cells;
     if cells < 1 {
-        return r.stop(21);
+        return r.stop(faults::STACK_UNDERFLOW);
     }
     r.advance().with_cells(cells - 1)
 }
@@ -41,7 +43,7 @@ pub fn dup(store: &mut [i32], size: usize, r: Registers) -> Registers
 {
     let cells = r.cells;
     if cells < 1 {
-        return r.stop(21);
+        return r.stop(faults::STACK_UNDERFLOW);
     }
     let top = peek(store, size, r.thread, cells - 1);
     loadc(store, size, r, top)

@@ -1,2 +1,2 @@
+pub mod Creating
 pub mod Ready
-pub mod Entries

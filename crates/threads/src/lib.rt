@@ -4,7 +4,6 @@ mod number;
 mod turns;
 
 pub use makes::create;
-pub use makes::next_number;
 pub use number::AThread;
 pub use number::a_thread;
 pub use turns::block;

@@ -1,16 +1,16 @@
 // A new thread.
 ghost use mathlib.Core.Path.{_≡_};
-ghost use lib.IntN.{pos};
 ghost use lib.ListN.{length};
 ghost use Rattle.machine.specs.Instructions.{create};
 ghost use Rattle.machine.specs.State.{newCells, newFp, newStack};
 ghost use Rattle.machine.specs.Tables.{ready, saved, sent, tablesOf};
-ghost use Rattle.cells.specs.Contract.{Able, ActsIn, CellOf, indexOf};
+ghost use Rattle.cells.specs.Contract.{Able, ActsIn, CellOf};
 ghost use Rattle.tables.specs.Good.{Good, Left};
-ghost use Rattle.threads.specs.Entries.{entryOf};
-use cells::Index;
+use cells::Opening;
 use machine::Registers;
 use machine::Thread;
+use machine::faults;
+use machine::sizes;
 
 // The stack of a new thread: its argument, and no frame to return to.
 fn new_stack(store: &mut [i32], size: usize, t: Thread, v: i32)
@@ -39,44 +39,12 @@ fn make_thread(
 {
     let t = Thread(made);
     new_stack(store, size, t, v);
-    tables::save(tables, size, t, entry, 3, 2);
+    tables::save(tables, size, t, entry, sizes::NEW_CELLS, sizes::NEW_FP);
     tables::send(tables, size, t, tables::READY);
     t
 }
 
-// What create finds below the top: a thread's entry, with room for the thread or without, or no entry.
-pub enum Entry {
-    At(usize),
-    Full,
-    Wrong,
-}
-
-// The number of the next thread, or of another thing of which a box has as many, if there is room for one.
-pub fn next_number(made: usize, size: usize) -> Index
-    ensures { λ r. ⌜ r ≡ indexOf (pos made) size ⌝ }
-{
-    if made < size {
-        Index::In(made)
-    } else {
-        Index::Out
-    }
-}
-
 // The entry is tested before the room.
-fn entry_of(v: i32, n: usize, made: usize, size: usize) -> Entry
-    ensures { λ e. ⌜ e ≡ entryOf v n made size ⌝ }
-{
-    let target = cells::checked(v, n);
-    let next = next_number(made, size);
-    let Index::In(at) = target else {
-        return Entry::Wrong;
-    };
-    let Index::In(_number) = next else {
-        return Entry::Full;
-    };
-    Entry::At(at)
-}
-
 pub fn create(
     store: &mut [i32],
     tables: &mut [usize],
@@ -90,17 +58,17 @@ pub fn create(
 {
     let cells = r.cells;
     if cells < 2 {
-        return r.stop(21);
+        return r.stop(faults::STACK_UNDERFLOW);
     }
     let below = cells::peek(store, size, r.thread, cells - 2);
     let made = r.threads;
-    match entry_of(below, n, made, size) {
-        Entry::Wrong => r.stop(25),
-        Entry::Full => {
+    match cells::opening_for(below, n, made, size) {
+        Opening::Wrong => r.stop(faults::BAD_TARGET),
+        Opening::Full => {
             cells::poke(store, size, r.thread, cells - 2, -1);
             r.advance().with_cells(cells - 1)
         }
-        Entry::At(entry) => {
+        Opening::Room(entry) => {
             let top = cells::peek(store, size, r.thread, cells - 1);
             let t = make_thread(store, tables, size, made, entry, top);
             cells::poke(store, size, r.thread, cells - 2, t.0 as i32);

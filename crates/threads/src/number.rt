@@ -6,6 +6,7 @@ ghost use Rattle.threads.specs.Contract.{threadNamed, topThread};
 use cells::Named;
 use machine::Registers;
 use machine::Thread;
+use machine::faults;
 
 pub enum AThread {
     Made(Thread),
@@ -17,7 +18,7 @@ pub fn a_thread(store: &[i32], size: usize, r: Registers) -> AThread
     requires { ⌜ Able size r (length (now store)) ⌝ }
     ensures { λ t. ⌜ topThread size (now (store .entry)) r ≡ threadNamed t ⌝ }
 {
-    match cells::number_at(store, size, r, 1, r.threads, 33) {
+    match cells::number_at(store, size, r, 1, r.threads, faults::NO_THREAD) {
         Named::Number(t) => AThread::Made(Thread(t)),
         Named::Fault(number) => AThread::Fault(number),
     }

@@ -14,6 +14,7 @@ ghost use Rattle.threads.specs.Contract.{Goes};
 use machine::First;
 use machine::Registers;
 use machine::Thread;
+use machine::states;
 
 // The place of the running thread.
 const ACTIVE: usize = 2;
@@ -24,9 +25,9 @@ fn idle(tables: &[usize], size: usize, r: Registers) -> Registers
     ensures { λ q. ⌜ q ≡ withState r (cond (anyLive size (tablesOf size (now (tables .entry)))) stuck halted) (nobody size) ⌝ }
 {
     if tables::any_live(tables, size) {
-        r.with_state(2, size)
+        r.with_state(states::STUCK, size)
     } else {
-        r.with_state(0, size)
+        r.with_state(states::HALTED, size)
     }
 }
 

@@ -8,12 +8,13 @@ mod places;
 mod state;
 
 use machine::Registers;
+use machine::sizes;
 
 fn sizes_fit(tables: &[usize], values: &[i32], size: usize) -> bool
     requires { ⌜ size ≤ 32 ⌝ }
     ensures { λ b. ⌜ b ≡ tablesFit size (now (tables .entry)) (now (values .entry)) ⌝ }
 {
-    tables.len() == 7 * size && values.len() == 2 * size
+    tables.len() == sizes::TABLES * size && values.len() == sizes::VALUES * size
 }
 
 // Each part is asked only where those before it passed: a number that fails its range is never an index.

@@ -9,6 +9,7 @@ ghost use Rattle.tables.specs.Good.{Good};
 use machine::Mutex;
 use machine::Registers;
 use machine::Thread;
+use machine::sizes;
 
 fn owner_fits(r: Registers, tables: &[usize], size: usize, m: usize) -> bool
     requires { ⌜ Good size (now tables) ⌝ }
@@ -27,7 +28,7 @@ pub fn owners_fit(r: Registers, tables: &[usize], size: usize) -> bool
     ensures { λ b. ⌜ b ≡ every (2 * size) (ownerFits size r (tablesOf size (now (tables .entry)))) ⌝ }
 {
     let mut m = 0;
-    while m < 2 * size {
+    while m < sizes::MUTEXES * size {
         if !owner_fits(r, tables, size, m) {
             return false;
         }

@@ -5,6 +5,7 @@ ghost use Rattle.machine.specs.WellFormed.{anyReady, stateFits};
 ghost use Rattle.tables.specs.Good.{Good};
 use machine::Registers;
 use machine::Thread;
+use machine::states;
 
 fn any_ready(tables: &[usize], size: usize) -> bool
     requires { ⌜ Good size (now tables) ⌝ }
@@ -20,16 +21,15 @@ fn any_ready(tables: &[usize], size: usize) -> bool
     false
 }
 
-// 0 halted, 1 running, 2 stuck, 3 faulted.
 pub fn state_fits(r: Registers, tables: &[usize], size: usize) -> bool
     requires { ⌜ Good size (now tables) ⌝ }
     ensures { λ b. ⌜ b ≡ stateFits size r (tablesOf size (now (tables .entry))) ⌝ }
 {
     if r.thread != size {
-        return r.state == 1 || (r.state == 3 || r.state == 0);
+        return r.state == states::RUNNING || (r.state == states::FAULTED || r.state == states::HALTED);
     }
-    if r.state == 2 {
+    if r.state == states::STUCK {
         return !any_ready(tables, size) && tables::any_live(tables, size);
     }
-    r.state == 0 && !tables::any_live(tables, size)
+    r.state == states::HALTED && !tables::any_live(tables, size)
 }

@@ -10,8 +10,9 @@ use Rattle.machine.specs.State.{semaphoreCount}
 use Rattle.machine.specs.Step.{onward}
 use Rattle.machine.specs.Tables.{tablesOf}
 use Rattle.cells.specs.Contract.{at}
+use Rattle.cells.proofs.Fits.{fits-is, numbered-beyond, numbered-value}
 use Rattle.passing.specs.Contract.{leaves}
-use Rattle.passing.proofs.Laws.{fits-beyond, fits-value, raises}
+use Rattle.passing.proofs.Laws.{raises}
 use Rattle.passing.proofs.raise.Statement.{statement}
 use Rattle.passing.proofs.raise.Tie as tie
 
@@ -38,7 +39,7 @@ same-length : tie.Need-same-length
 same-length c = search needs
 
 returns : tie.Need-returns
-returns c n store = rw (c .stop .ensures) (ap (leaves _) (sym (fits-beyond _ _ (number (c .before .before .before) ∙ c .before .enum-told .given .1))))
+returns c n store = rw (c .stop .ensures) (ap (leaves _) (sym (fits-is _ _ ∙ numbered-beyond _ _ (number (c .before .before .before) ∙ c .before .enum-told .given .1))))
 
 set-count-requires : tie.Need-set-count-requires
 set-count-requires c κs = search needs
@@ -58,7 +59,7 @@ same-length-3 c = search needs
 returns-2 : tie.Need-returns-2
 returns-2 c n store =
     rw (c .popped .ensures, c .before .before .before .wake-first .ensures .is, c .before .before .before .before .before .before .set-count .ensures, toZ-ofZ (sfits-of {w = w32} {z = c .before .before .before .before .before .before .before .before .before .raised .given .0 .0} (c .before .before .before .before .before .before .before .before .known-told .given .0 .1)))
-    (raises (c .before .before .before .before .before .before .before .before .before .before .before .before .before .before .before .args .size) n (onward (at store (tablesOf (c .before .before .before .before .before .before .before .before .before .before .before .before .before .before .before .args .size) (now (c .before .before .before .before .before .before .before .before .before .before .before .before .before .before .before .args .tables))) (now (c .before .before .before .before .before .before .before .before .before .before .before .before .before .before .before .args .values)) (c .before .before .before .before .before .before .before .before .before .before .before .before .before .before .before .args .r))) (c .before .before .before .before .before .before .before .before .before .before .before .before .before .before .before .args .k .0) (c .before .before .before .before .before .before .before .before .before .raised .given .0 .0) ∙ ap (leaves _) (sym (fits-value _ _ _ (number (c .before .before .before .before .before .before .before .before .before .before .before) ∙ c .before .before .before .before .before .before .before .before .before .raised .given .1))))
+    (raises (c .before .before .before .before .before .before .before .before .before .before .before .before .before .before .before .args .size) n (onward (at store (tablesOf (c .before .before .before .before .before .before .before .before .before .before .before .before .before .before .before .args .size) (now (c .before .before .before .before .before .before .before .before .before .before .before .before .before .before .before .args .tables))) (now (c .before .before .before .before .before .before .before .before .before .before .before .before .before .before .before .args .values)) (c .before .before .before .before .before .before .before .before .before .before .before .before .before .before .before .args .r))) (c .before .before .before .before .before .before .before .before .before .before .before .before .before .before .before .args .k .0) (c .before .before .before .before .before .before .before .before .before .raised .given .0 .0) ∙ ap (leaves _) (sym (fits-is _ _ ∙ numbered-value _ _ _ (number (c .before .before .before .before .before .before .before .before .before .before .before) ∙ c .before .before .before .before .before .before .before .before .before .raised .given .1))))
 
 pub raise-spec : {M : Type 1} → statement M
 raise-spec =

@@ -25,8 +25,8 @@ returns c n values =
     rw (c .stop .ensures)
     (faults _ n _ _ 28 (wait-is _ n _ ∙ both-there _ _ _ _ _ _ _ _ _ _ (c .before .before .before .before .before .before .pre .1 .1 .1 .0) (c .before .before .before .before .before .before .pre .1 .1 .1 .1) ∙ owns-not _ _ _ _ _ (λ e. c .before .if1 .taken (c .before .before .before .owner .ensures ∙ e))))
 
-at-its-lock-requires : tie.Need-at-its-lock-requires
-at-its-lock-requires c κs = let mutex = passed _ _ _ _ _ _ _ (c .before .before .before .before .before .pre .1 .1 .1 .1) in (c .before .before .before .before .before .pre .0 .pc, omega (arith, mutex .enough))
+popped-requires : tie.Need-popped-requires
+popped-requires c κs = let mutex = passed _ _ _ _ _ _ _ (c .before .before .before .before .before .pre .1 .1 .1 .1) in (c .before .before .before .before .before .pre .0 .pc, omega (arith, mutex .enough))
 
 mul-leave : tie.Need-mul-leave
 mul-leave c = search needs
@@ -38,7 +38,7 @@ add-leave-2 : tie.Need-add-leave-2
 add-leave-2 c = let there = passed _ _ _ _ _ _ _ (c .before .before .before .before .before .before .before .before .pre .1 .1 .1 .0) in omega (arith, there .below, c .before .before .before .before .before .before .before .before .pre .1 .1 .0 .conditions, c .before .before .before .before .before .before .before .before .pre .0 .small)
 
 leave-requires : tie.Need-leave-requires
-leave-requires c κs = rw (c .before .before .at-its-lock .ensures) (c .before .before .before .before .before .before .before .before .pre .1 .0, c .before .before .before .before .before .before .before .before .pre .0 .thread)
+leave-requires c κs = rw (c .before .before .popped .ensures) (c .before .before .before .before .before .before .before .before .pre .1 .0, c .before .before .before .before .before .before .before .before .pre .0 .thread)
 
 unlock-mutex-requires : tie.Need-unlock-mutex-requires
 unlock-mutex-requires c κs = let mutex = passed _ _ _ _ _ _ _ (c .before .before .before .before .before .before .before .before .before .before .before .before .pre .1 .1 .1 .1) in (c .before .before .before .leave .ensures .good, omega (arith, mutex .below, c .before .before .before .before .before .before .before .before .before .before .before .before .pre .1 .1 .0 .mutexes))
@@ -52,7 +52,7 @@ same-length-2 c = search needs
 returns-2 : tie.Need-returns-2
 returns-2 c n values =
     let store = now (c .before .before .before .before .before .before .before .before .before .before .before .before .before .before .before .before .before .before .before .args .store) in
-    let gone = rw (c .before .before .before .before .before .before .before .before .before .before .before .before .before .at-its-lock .ensures) at (c .before .before .before .before .before .before .before .before .before .before .leave .ensures .is store values) in
+    let gone = rw (c .before .before .before .before .before .before .before .before .before .before .before .before .before .popped .ensures) at (c .before .before .before .before .before .before .before .before .before .before .leave .ensures .is store values) in
     c .before .before .next .ensures .is store values
     ∙ ap (next _) (waits _ _ _ _ _ _ _ _ gone (c .before .before .before .before .before .before .unlock-mutex .ensures .is))
     ∙ carries _ n _ _ _ (wait-is _ n _ ∙ both-there _ _ _ _ _ _ _ _ _ _ (c .before .before .before .before .before .before .before .before .before .before .before .before .before .before .before .before .before .before .before .pre .1 .1 .1 .0) (c .before .before .before .before .before .before .before .before .before .before .before .before .before .before .before .before .before .before .before .pre .1 .1 .1 .1) ∙ owns-it _ _ _ _ _ (sym (c .before .before .before .before .before .before .before .before .before .before .before .before .before .before .before .before .owner .ensures) ∙ c .before .before .before .before .before .before .before .before .before .before .before .before .before .before .if1 .left))
@@ -65,7 +65,7 @@ wait-for-spec =
     stop-requires
     same-length
     returns
-    at-its-lock-requires
+    popped-requires
     mul-leave
     add-leave
     add-leave-2

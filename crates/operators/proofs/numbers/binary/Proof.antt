@@ -12,7 +12,8 @@ use Rattle.machine.specs.Size.{stackAt}
 use Rattle.machine.proofs.Equations.{carries, faults}
 use Rattle.cells.proofs.Tests.{needs-less, needs-met}
 use Rattle.operators.specs.Operators.{computed}
-use Rattle.operators.proofs.Outcomes.{binary-is, numbered-beyond, numbered-value}
+use Rattle.cells.proofs.Fits.{numbered-beyond, numbered-value}
+use Rattle.operators.proofs.Outcomes.{binary-is}
 use Rattle.operators.proofs.numbers.binary.Statement.{statement}
 use Rattle.operators.proofs.numbers.binary.Tie as tie
 

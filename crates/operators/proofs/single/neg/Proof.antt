@@ -11,7 +11,8 @@ use Rattle.machine.specs.Size.{stackAt}
 use Rattle.machine.proofs.Equations.{carries, faults}
 use Rattle.cells.proofs.Tests.{needs-less, needs-met}
 use Rattle.arithmetic.specs.Arithmetic.{narrowed}
-use Rattle.operators.proofs.Outcomes.{neg-numbered, numbered-beyond, numbered-value}
+use Rattle.cells.proofs.Fits.{numbered-beyond, numbered-value}
+use Rattle.operators.proofs.Outcomes.{neg-numbered}
 use borrow.Author.Needs.{needs, sfits-of}
 use Rattle.operators.proofs.single.neg.Statement.{statement}
 use Rattle.operators.proofs.single.neg.Tie as tie

@@ -12,18 +12,19 @@ use mir.Facts.{toZ-ofZ, toZ-pos}
 use Rattle.machine.specs.Size.{stackAt}
 use Rattle.machine.proofs.Equations.{carries, create-is, faults}
 use Rattle.cells.proofs.Tests.{needs-less}
-use Rattle.threads.specs.Entries.{entryOf}
-use Rattle.threads.proofs.Entries.{at-room, creates}
+use Rattle.cells.specs.Openings.{openingOf}
+use Rattle.cells.proofs.Opened.{has-room}
+use Rattle.threads.proofs.Creating.{creates}
 use Rattle.threads.proofs.makes.create.Statement.{statement}
 use Rattle.threads.proofs.makes.create.Tie as tie
 
 -- what was found in the cell below the top
-below : (c : tie.After-entry-of) → entryOf (getD (now (c .before .before .before .before .before .args .store)) (stackAt (c .before .before .before .before .before .args .size) (c .before .before .before .before .before .args .r .thread) (c .before .before .before .before .before .args .r .cells - 2)) (pos 0)) (c .before .before .before .before .before .args .n) (c .before .before .before .before .before .args .r .threads) (c .before .before .before .before .before .args .size) ≡ c .entry-of .result
-below c = sym (rw (toZ-ofZ (sfits-of {w = w32} {z = c .before .peek .result} (c .before .peek .ok)), c .before .peek .ensures) at (c .entry-of .ensures))
+below : (c : tie.After-opening-for) → openingOf (getD (now (c .before .before .before .before .before .args .store)) (stackAt (c .before .before .before .before .before .args .size) (c .before .before .before .before .before .args .r .thread) (c .before .before .before .before .before .args .r .cells - 2)) (pos 0)) (c .before .before .before .before .before .args .n) (c .before .before .before .before .before .args .r .threads) (c .before .before .before .before .before .args .size) ≡ c .opening-for .result
+below c = sym (rw (toZ-ofZ (sfits-of {w = w32} {z = c .before .peek .result} (c .before .peek .ok)), c .before .peek .ensures) at (c .opening-for .ensures))
 
 -- there is room for a thread
 room : (c : tie.After-entry) → c .before .before .before .before .before .before .before .args .r .threads < c .before .before .before .before .before .before .before .args .size
-room c = at-room (toZ w32 (ofZ w32 (c .before .before .before .peek .result))) (c .before .before .before .before .before .before .before .args .n) (c .before .before .before .before .before .before .before .args .r .threads) (c .before .before .before .before .before .before .before .args .size) _ (sym (c .before .before .entry-of .ensures) ∙ c .entry .given .1)
+room c = has-room (toZ w32 (ofZ w32 (c .before .before .before .peek .result))) (c .before .before .before .before .before .before .before .args .n) (c .before .before .before .before .before .before .before .args .r .threads) (c .before .before .before .before .before .before .before .args .size) _ (sym (c .before .before .opening-for .ensures) ∙ c .entry .given .1)
 
 stop-requires : tie.Need-stop-requires
 stop-requires c κs = search needs
@@ -34,8 +35,8 @@ returns c values = rw (c .stop .ensures) (faults _ _ _ _ 21 (create-is _ _ _ ∙
 peek-requires : tie.Need-peek-requires
 peek-requires c κs = search needs
 
-entry-of-requires : tie.Need-entry-of-requires
-entry-of-requires c κs = search needs
+opening-for-requires : tie.Need-opening-for-requires
+opening-for-requires c κs = search needs
 
 enum-told : tie.Need-enum-told
 enum-told c = search needs
@@ -136,7 +137,7 @@ create-spec =
     stop-requires
     returns
     peek-requires
-    entry-of-requires
+    opening-for-requires
     enum-told
     stop-requires-2
     enum-told-2
