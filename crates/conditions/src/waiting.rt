@@ -1,4 +1,4 @@
-// Conditions: a thread waits for one at the place 4 + 2 × size + its number.
+// Making a condition, and waiting for one.
 ghost use mathlib.Core.Path.{_≡_};
 ghost use lib.ListN.{length};
 ghost use Rattle.machine.specs.Instructions.{newcond, wait};
@@ -16,6 +16,7 @@ use locks::unlock_mutex;
 use machine::Condition;
 use machine::Mutex;
 use machine::Registers;
+use machine::Thread;
 use machine::faults;
 use machine::sizes;
 
@@ -51,13 +52,12 @@ fn wait_for(
     requires { ⌜ mutexAt size (now store) r 2 ≡ Number (m .0) ⌝ }
     ensures { λ q. ⌜ Acts size wait (now (store .entry)) (now (tables .entry)) r (now (store .entry)) (now (tables .exit)) q ⌝ }
 {
-    let owner = tables::owner(tables, size, m);
-    if owner != r.thread {
+    if !tables::owns(tables, size, Thread(r.thread), m) {
         return r.stop(faults::NOT_OWNER);
     }
     // When it is woken it goes on after wait, with the mutex on top: at the card's own lock.
     let away = cells::popped(r);
-    let gone = threads::leave(tables, size, away, 4 + 2 * size + c.0);
+    let gone = threads::leave(tables, size, away, tables::at_condition(size, c));
     unlock_mutex(tables, size, m);
     threads::next(tables, size, gone)
 }

@@ -7,7 +7,6 @@ ghost use Rattle.machine.specs.Tables.{tablesOf};
 ghost use Rattle.machine.specs.WellFormed.{levelFits, shortfall};
 ghost use Rattle.cells.specs.Contract.{Made};
 ghost use Rattle.tables.specs.Good.{Good};
-use crate::values::count;
 use machine::Registers;
 use machine::Semaphore;
 
@@ -27,8 +26,8 @@ fn level_fits(tables: &[usize], values: &[i32], size: usize, k: Semaphore) -> bo
     requires { ⌜ k .0 < size ⌝ }
     ensures { λ b. ⌜ b ≡ levelFits size (tablesOf size (now (tables .entry))) (now (values .entry)) (k .0) ⌝ }
 {
-    let at = k.0;
-    tables::waiting(tables, size, 4 + 4 * size + at) == shortfall(count(values, size, k))
+    let waiting = tables::waiting(tables, size, tables::at_semaphore(size, k));
+    waiting == shortfall(tables::count(values, size, k))
 }
 
 pub fn levels_fit(r: Registers, tables: &[usize], values: &[i32], size: usize) -> bool

@@ -1,9 +1,8 @@
 // A thread's end and its result, and who waits for them.
-ghost use Prim.Native.Nat.{_*_, _<_, _≤_};
+ghost use Prim.Native.Nat.{_*_, _<_};
 ghost use mathlib.Core.Path.{_≡_};
 ghost use lib.ListN.{length};
 ghost use Rattle.machine.specs.Instructions.{exit, finalize, join};
-ghost use Rattle.machine.specs.Tables.{atEnd};
 ghost use Rattle.cells.specs.Contract.{Able, Acts, Changes, Made};
 ghost use Rattle.tables.specs.Good.{Good};
 ghost use Rattle.endings.specs.Contract.{Ends};
@@ -14,18 +13,6 @@ use threads::AThread;
 use threads::a_thread;
 use threads::block;
 use threads::next;
-
-// The place of a thread that has ended.
-const ENDED: usize = 1;
-
-// The place of those who wait for a thread's end.
-fn queue_of(size: usize, t: Thread) -> usize
-    requires { ⌜ size ≤ 32 ⌝ }
-    requires { ⌜ t .0 < size ⌝ }
-    ensures { λ p. ⌜ p ≡ atEnd size (t .0) ⌝ }
-{
-    4 + 5 * size + t.0
-}
 
 // The running thread ends with a result, and the next one runs.
 pub fn finish(
@@ -41,9 +28,9 @@ pub fn finish(
     ensures { λ q. ⌜ Ends size v (now (tables .entry)) (now (values .entry)) r (now (tables .exit)) (now (values .exit)) q ⌝ }
 {
     let t = Thread(r.thread);
-    cells::write(values, r.thread, v);
-    tables::wake_all(tables, size, queue_of(size, t));
-    tables::send(tables, size, t, ENDED);
+    tables::set_result(values, t, v);
+    tables::wake_all(tables, size, tables::at_end(size, t));
+    tables::send(tables, size, t, tables::ENDED);
     next(tables, size, r.with_state(r.state, size))
 }
 
@@ -80,11 +67,10 @@ pub fn join(store: &[i32], tables: &mut [usize], size: usize, r: Registers) -> R
     match a_thread(store, size, r) {
         AThread::Fault(number) => r.stop(number),
         AThread::Made(t) => {
-            let place = tables::place(tables, size, t);
-            if place == ENDED {
+            if tables::has_ended(tables, size, t) {
                 return r.advance();
             }
-            block(tables, size, r.advance(), queue_of(size, t))
+            block(tables, size, r.advance(), tables::at_end(size, t))
         }
     }
 }
@@ -105,11 +91,10 @@ pub fn finalize(
     match a_thread(store, size, r) {
         AThread::Fault(number) => r.stop(number),
         AThread::Made(t) => {
-            let place = tables::place(tables, size, t);
-            if place != ENDED {
+            if !tables::has_ended(tables, size, t) {
                 return r.stop(faults::NOT_ENDED);
             }
-            let v = cells::read(values, t.0);
+            let v = tables::result(values, t);
             let cells = r.cells;
             cells::poke(store, size, r.thread, cells - 1, v);
             r.advance()

@@ -10,6 +10,7 @@ use crate::numbers::a_mutex;
 use crate::numbers::push_number;
 use machine::First;
 use machine::Mutex;
+use machine::Owner;
 use machine::Registers;
 use machine::Thread;
 use machine::faults;
@@ -42,12 +43,11 @@ pub fn lock(store: &[i32], tables: &mut [usize], size: usize, r: Registers) -> R
         AMutex::Fault(number) => r.stop(number),
         AMutex::Made(m) => {
             let after = cells::popped(r);
-            let owner = tables::owner(tables, size, m);
-            if owner == size {
-                tables::own(tables, size, m, Thread(r.thread));
-                return after;
-            }
-            threads::block(tables, size, after, 4 + m.0)
+            let Owner::Nobody = tables::owner(tables, size, m) else {
+                return threads::block(tables, size, after, tables::at_mutex(m));
+            };
+            tables::own(tables, size, m, Owner::Thread(Thread(r.thread)));
+            after
         }
     }
 }
@@ -62,8 +62,7 @@ pub fn unlock(store: &[i32], tables: &mut [usize], size: usize, r: Registers) ->
     match a_mutex(store, size, r, 1) {
         AMutex::Fault(number) => r.stop(number),
         AMutex::Made(m) => {
-            let owner = tables::owner(tables, size, m);
-            if owner != r.thread {
+            if !tables::owns(tables, size, Thread(r.thread), m) {
                 return r.stop(faults::NOT_OWNER);
             }
             unlock_mutex(tables, size, m);
@@ -78,9 +77,10 @@ pub fn unlock_mutex(tables: &mut [usize], size: usize, m: Mutex)
     requires { ⌜ m .0 < 2 * size ⌝ }
     ensures { λ _. ⌜ Left size (now (tables .exit)) (unlocked size (tablesOf size (now (tables .entry))) (m .0)) ⌝ }
 {
-    let First::Waiter(t) = tables::dequeue(tables, size, 4 + m.0, tables::READY) else {
-        tables::free(tables, size, m);
+    let First::Waiter(t) = tables::dequeue(tables, size, tables::at_mutex(m)) else {
+        tables::own(tables, size, m, Owner::Nobody);
         return;
     };
-    tables::own(tables, size, m, t);
+    tables::own(tables, size, m, Owner::Thread(t));
+    tables::make_ready(tables, size, t);
 }

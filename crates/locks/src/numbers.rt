@@ -42,6 +42,12 @@ pub fn push_number(store: &mut [i32], size: usize, r: Registers, made: usize) ->
     ensures { λ q. ⌜ Numbers size made (now (store .entry)) r (now (store .exit)) q ⌝ }
 {
     let cells = r.cells;
-    cells::poke(store, size, r.thread, cells, next_number(made, sizes::MUTEXES * size));
+    cells::poke(
+        store,
+        size,
+        r.thread,
+        cells,
+        next_number(made, sizes::MUTEXES * size),
+    );
     r.advance().with_cells(cells + 1)
 }

@@ -227,3 +227,20 @@ pub length-up-to : (n : ℕ) → length (upTo n) ≡ n
 unfolding upTo
 length-up-to zero = refl
 length-up-to (suc n) = length-append (upTo n) (n ∷ []) ∙ rw (length-up-to n) (omega arith)
+
+-- a member that is the last is moved nowhere
+pub to-end-last : (t : ℕ) (l : List ℕ) → count t l ≡ 0 → toEnd t (l ++ t ∷ []) ≡ l ++ t ∷ []
+unfolding toEnd
+to-end-last t [] none = rw (eq-eqb t t refl)
+to-end-last t (x ∷ xs) none =
+    let away : x ≢ t = λ e. omega (arith, count-cons t x xs, one-if-is x t e) in
+    rw (ne-eqb x t away) (ap (λ (r : List ℕ). x ∷ r) (to-end-last t xs (omega (arith, count-cons t x xs))))
+
+-- so one that occurs once is moved once
+pub to-end-twice : (t : ℕ) (l : List ℕ) → count t l ≡ 1 → toEnd t (toEnd t l) ≡ toEnd t l
+unfolding toEnd
+to-end-twice t [] once = refl
+to-end-twice t (x ∷ xs) once =
+    same-or-not x t
+    (λ e. rw (eq-eqb x t e, e) (to-end-last t xs (omega (arith, count-cons t x xs, one-if-is x t e))))
+    (λ e. rw (ne-eqb x t e, ne-eqb x t e) (ap (λ (r : List ℕ). x ∷ r) (to-end-twice t xs (omega (arith, count-cons t x xs, one-if-other x t e)))))

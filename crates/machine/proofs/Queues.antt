@@ -7,12 +7,12 @@ use mathlib.Core.List.{List, [], _∷_, _++_}
 use mathlib.Core.Logic.{_≢_}
 use lib.Dec.{eqb}
 use lib.ListN.{length, getD, length-set}
-use lib.Seq.{getD-set-same, getD-set-other}
+use lib.Seq.{getD-set-same, getD-set-other, set-set}
 use borrow.Author.Tests.{eq-eqb, ne-eqb, eqb-true, eqb-false}
 use Rattle.machine.specs.Lists.{count}
 use Rattle.machine.specs.Tables.{Tables, allReady, first, firstOf, isAt, owned, ownerOf, placeOf, queue, ready, saved, sent}
 use Rattle.machine.specs.declared.numbers.First.the-variants.{Waiter, Nobody}
-use Rattle.machine.proofs.Lists.{arrives, count-keep, count-to-end, departs, first-occurs, first-passes, keep-none, keep-same, keep-short, keep-to-end, length-to-end, none-passes, same-or-not}
+use Rattle.machine.proofs.Lists.{arrives, count-keep, count-to-end, departs, first-occurs, first-passes, keep-none, keep-same, keep-short, keep-to-end, length-to-end, none-passes, same-or-not, to-end-twice}
 
 -- the tables' lists have the box's sizes
 pub record Sizes (size : ℕ) (tables : Tables) : Type 0 where
@@ -223,3 +223,13 @@ woken-owner (t ∷ rest) tables m = woken-owner rest (sent tables t ready) m ∙
 pub queue-short : (tables : Tables) (q : ℕ) → length (queue tables q) ≤ length (tables .line)
 unfolding queue
 queue-short tables q = keep-short (isAt tables q) (tables .line)
+
+-- of two moves of a thread the second counts
+pub sent-again : (tables : Tables) (t p q : ℕ) → count t (tables .line) ≡ 1 → sent (sent tables t p) t q ≡ sent tables t q
+unfolding sent
+sent-again tables t p q once = rw (set-set (tables .places) t p q, to-end-twice t (tables .line) once)
+
+-- sending a thread and giving a mutex commute
+pub owned-sent : (tables : Tables) (t p m o : ℕ) → owned (sent tables t p) m o ≡ sent (owned tables m o) t p
+unfolding owned sent
+owned-sent tables t p m o = refl

@@ -68,10 +68,6 @@ atSemaphore size k = 4 + 4 * size + k
 abbrev pub atEnd : ℕ → ℕ → ℕ
 atEnd size t = 4 + 5 * size + t
 
--- one past the last place
-abbrev pub placeLimit : ℕ → ℕ
-placeLimit size = 4 + 6 * size
-
 abbrev pub placeOf : Tables → ℕ → ℕ
 placeOf tables t = getD (tables .places) t 0
 

@@ -12,3 +12,9 @@ pub enum First {
     Waiter(Thread),
     Nobody,
 }
+
+// Who owns a mutex: a thread, or nobody.
+pub enum Owner {
+    Thread(Thread),
+    Nobody,
+}

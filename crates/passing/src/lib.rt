@@ -11,22 +11,12 @@ ghost use Rattle.machine.specs.Tables.{atSemaphore, tablesOf, wakeFirst};
 ghost use Rattle.tables.specs.Good.{Good, Left};
 ghost use Rattle.passing.specs.Contract.{Comes, Low};
 use arithmetic::Number;
-use machine::First;
 use machine::Registers;
 use machine::Semaphore;
 use machine::faults;
 
-// The place of those who wait for a semaphore.
-fn queue_of(size: usize, k: Semaphore) -> usize
-    requires { ⌜ size ≤ 32 ⌝ }
-    requires { ⌜ k .0 < size ⌝ }
-    ensures { λ p. ⌜ p ≡ atSemaphore size (k .0) ⌝ }
-{
-    4 + 4 * size + k.0
-}
-
 // The first who waits is ready, where the count, which was raised, is not positive.
-fn wake_first(tables: &mut [usize], size: usize, k: Semaphore, count: i32)
+fn wake_unless_positive(tables: &mut [usize], size: usize, k: Semaphore, count: i32)
     requires { ⌜ Good size (now tables) ⌝ }
     requires { ⌜ k .0 < size ⌝ }
     ensures { λ _. ⌜ Left size (now (tables .exit)) (cond (leZ count (pos 0)) (wakeFirst (tablesOf size (now (tables .entry))) (atSemaphore size (k .0))) (tablesOf size (now (tables .entry)))) ⌝ }
@@ -34,9 +24,7 @@ fn wake_first(tables: &mut [usize], size: usize, k: Semaphore, count: i32)
     if 0 < count {
         return;
     }
-    let First::Waiter(_) = tables::dequeue(tables, size, queue_of(size, k), tables::READY) else {
-        return;
-    };
+    tables::wake_first(tables, size, tables::at_semaphore(size, k));
 }
 
 // The semaphore's part of up.
@@ -54,11 +42,11 @@ pub fn raise(
     requires { ⌜ 1 ≤ r .cells ⌝ }
     ensures { λ q. ⌜ Comes size (λ n s. raising size n s (k .0)) (now (tables .entry)) (now (values .entry)) r (now (tables .exit)) (now (values .exit)) q ⌝ }
 {
-    let Number::Value(raised) = arithmetic::add(counts::count(values, size, k), 1) else {
+    let Number::Value(raised) = arithmetic::add(tables::count(values, size, k), 1) else {
         return r.stop(faults::ARITHMETIC);
     };
-    counts::set_count(values, size, k, raised);
-    wake_first(tables, size, k, raised);
+    tables::set_count(values, size, k, raised);
+    wake_unless_positive(tables, size, k, raised);
     cells::popped(r)
 }
 
@@ -79,11 +67,11 @@ pub fn lower(
     requires { ⌜ 1 ≤ r .cells ⌝ }
     ensures { λ q. ⌜ Comes size (λ n s. lowering size n s (k .0)) (now (tables .entry)) (now (values .entry)) r (now (tables .exit)) (now (values .exit)) q ⌝ }
 {
-    let lowered = counts::count(values, size, k) - 1;
-    counts::set_count(values, size, k, lowered);
+    let lowered = tables::count(values, size, k) - 1;
+    tables::set_count(values, size, k, lowered);
     let after = cells::popped(r);
     if lowered < 0 {
-        return threads::block(tables, size, after, queue_of(size, k));
+        return threads::block(tables, size, after, tables::at_semaphore(size, k));
     }
     after
 }

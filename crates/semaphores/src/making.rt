@@ -32,7 +32,7 @@ pub fn newsema(store: &mut [i32], values: &mut [i32], size: usize, r: Registers)
             r.advance()
         }
         Opening::Room(_) => {
-            counts::set_count(values, size, Semaphore(made), starting);
+            tables::set_count(values, size, Semaphore(made), starting);
             cells::poke(store, size, r.thread, cells - 1, made as i32);
             r.advance().with_semaphores(made + 1)
         }

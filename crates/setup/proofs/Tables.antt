@@ -10,7 +10,7 @@ use Rattle.machine.proofs.Lists.{length-up-to, less-or-not}
 use Rattle.machine.specs.Lists.{upTo}
 use Rattle.machine.specs.State.{startTables}
 use Rattle.machine.specs.Tables.{sliceOf}
-use Rattle.setup.specs.Start.{startAt}
+use Rattle.tables.specs.Start.{startAt}
 
 -- an element of the second of two lists
 pub past : (x y : List ℕ) (a i : ℕ) → length x ≡ a → a ≤ i → getD (x ++ y) i 0 ≡ getD y (i - a) 0

@@ -1,9 +1,7 @@
 -- What the functions of set-up ask, and what they leave.
-use Prim.Native.Nat.{ℕ, _*_, _-_, _≤_}
-use mathlib.Core.Bool.{cond}
+use Prim.Native.Nat.{ℕ, _*_, _≤_}
 use mathlib.Core.List.{List}
 use mathlib.Core.Path.{_≡_}
-use lib.Dec.{eqb, ltb}
 use lib.IntN.{ℤ}
 use Rattle.machine.specs.Size.{storeSize, tablesSize, valuesSize}
 use Rattle.machine.specs.State.{start}
@@ -23,10 +21,6 @@ pub record Lent (size store tables values : ℕ) : Type 0 where
   pub cells-fit : store ≡ storeSize size
   pub tables-fit : tables ≡ tablesSize size
   pub values-fit : values ≡ valuesSize size
-
--- number i of the tables at the start
-abbrev pub startAt : ℕ → ℕ → ℕ
-startAt size i = cond (eqb i 0) 2 (cond (ltb i (4 * size)) 0 (cond (ltb i (6 * size)) size (i - 6 * size)))
 
 -- the store, the tables, the values and the registers are those of the start
 pub record Started (size cells : ℕ) (store : List ℤ) (tables : List ℕ) (values : List ℤ) (r : Registers) : Type 0 where

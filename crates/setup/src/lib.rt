@@ -1,11 +1,10 @@
 // The start of a machine: what setting up leaves in the store, the tables and the values. Inner: set-up calls it on memory of the right sizes.
 ghost use mathlib.Core.Path.{_≡_};
-ghost use Prim.Native.Nat.{_≤_, _<_, _*_};
 ghost use lib.IntN.{pos};
 ghost use lib.ListN.{length, replicate};
 ghost use Rattle.machine.specs.State.{startTables};
 ghost use Rattle.machine.specs.Tables.{sliceOf};
-ghost use Rattle.setup.specs.Start.{Lent, Roomy, Started, startAt};
+ghost use Rattle.setup.specs.Start.{Lent, Roomy, Started};
 use machine::Registers;
 use machine::sizes;
 use machine::states;
@@ -21,30 +20,13 @@ fn clear(cells: &mut [i32])
     }
 }
 
-// Number `i` of the tables at the start: thread 0 runs, every mutex is free, and the line is in number order.
-fn start_at(size: usize, i: usize) -> usize
-    requires { ⌜ size ≤ 32 ⌝ }
-    ensures { λ r. ⌜ r ≡ startAt size i ⌝ }
-{
-    if i == 0 {
-        return 2;
-    }
-    if i < 4 * size {
-        return 0;
-    }
-    if i < 6 * size {
-        return size;
-    }
-    i - 6 * size
-}
-
 fn start_tables(tables: &mut [usize], size: usize)
     requires { ⌜ Roomy size (length (now tables)) ⌝ }
     ensures { λ _. ⌜ now (tables .exit) ≡ sliceOf (startTables size) ⌝ }
 {
     let mut i = 0;
     while i < tables.len() {
-        tables[i] = start_at(size, i);
+        tables[i] = tables::start_at(size, i);
         i += 1;
     }
 }

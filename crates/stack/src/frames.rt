@@ -2,11 +2,11 @@
 ghost use Rattle.machine.specs.Instructions.{loadr, storer};
 ghost use Rattle.cells.specs.Contract.{Able, Does};
 ghost use lib.ListN.{length};
+use crate::constants::loadc;
 use cells::Index;
 use cells::offset;
 use cells::peek;
 use cells::poke;
-use crate::constants::loadc;
 use machine::Registers;
 use machine::faults;
 use machine::sizes;

@@ -1,3 +1,4 @@
 pub mod Regions
 pub mod Line
 pub mod Waking
+pub mod Owning

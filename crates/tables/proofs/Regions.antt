@@ -30,9 +30,9 @@ module _ (size : ℕ) (l : List ℕ) where
   unfolding tablesOf
   read-place t h = getD-take size l t 0 h
 
-  pub read-pc : (t : ℕ) → t < size → getD (tablesOf size l .pcs) t 0 ≡ getD l (size + t) 0
+  pub read-pc : (t : ℕ) → t < size → getD (tablesOf size l .pcs) t 0 ≡ getD l (1 * size + t) 0
   unfolding tablesOf
-  read-pc t h = region-read l size size t h
+  read-pc t h = let once : 1 * size ≡ size = omega arith in rw once (region-read l size size t h)
 
   pub read-depth : (t : ℕ) → t < size → getD (tablesOf size l .depths) t 0 ≡ getD l (2 * size + t) 0
   unfolding tablesOf
@@ -60,9 +60,12 @@ module _ (size : ℕ) (l : List ℕ) where
       }
 
   pub store-saved : (t pc cells fp : ℕ) → t < size →
-      tablesOf size (set (set (set l (size + t) pc) (2 * size + t) cells) (3 * size + t) fp) ≡ saved (tablesOf size l) t pc cells fp
+      tablesOf size (set (set (set l (1 * size + t) pc) (2 * size + t) cells) (3 * size + t) fp) ≡ saved (tablesOf size l) t pc cells fp
   unfolding tablesOf saved
   store-saved t pc cells fp h =
+      let once : 1 * size ≡ size = omega arith in
+      rw once
+      (
       let one : List ℕ = set l (size + t) pc in
       let two : List ℕ = set one (2 * size + t) cells in
       λ i.
@@ -84,7 +87,7 @@ module _ (size : ℕ) (l : List ℕ) where
             (drop-set-lt (6 * size) two (3 * size + t) fp (omega arith)
             ∙ drop-set-lt (6 * size) one (2 * size + t) cells (omega arith)
             ∙ drop-set-lt (6 * size) l (size + t) pc (omega arith)) i;
-      }
+      })
 
   -- tables whose line is as it was are in order
   pub still-good : (l′ : List ℕ) (tables : Tables) → Good size l → tablesOf size l′ ≡ tables → tables .line ≡ tablesOf size l .line → length l′ ≡ length l → Left size l′ tables

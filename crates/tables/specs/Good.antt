@@ -5,7 +5,7 @@ use mathlib.Core.Path.{_≡_}
 use lib.ListN.{length, take, drop}
 use Rattle.machine.specs.Plain.{Line}
 use Rattle.machine.specs.Lists.{toEnd}
-use Rattle.machine.specs.Tables.{Tables, first, sent, tablesOf}
+use Rattle.machine.specs.Tables.{Tables, active, first, sent, tablesOf}
 use Rattle.machine.specs.declared.numbers.Thread.{Thread}
 use Rattle.machine.specs.declared.numbers.First.{First}
 use Rattle.machine.specs.declared.numbers.First.the-variants.{Waiter, Nobody}
@@ -21,17 +21,17 @@ pub record Left (size : ℕ) (slice : List ℕ) (tables : Tables) : Type 0 where
   pub is : tablesOf size slice ≡ tables
   pub good : Good size slice
 
--- a queue's first thread goes to a place, if there is one
-abbrev pub taken : First → ℕ → Tables → Tables
-taken (Waiter t) place tables = sent tables (t .0) place
-taken Nobody place tables = tables
+-- a queue's first thread, if there is one, is taken out of it: its place is then that of the running thread, which no queue has
+abbrev pub taken : First → Tables → Tables
+taken (Waiter t) tables = sent tables (t .0) active
+taken Nobody tables = tables
 
 -- a slice whose first t from a place on is moved to the end
 abbrev pub endMoved : List ℕ → ℕ → ℕ → List ℕ
 endMoved slice from t = take from slice ++ toEnd t (drop from slice)
 
 -- what taking the first of a queue answers, and leaves
-pub record Dequeued (size : ℕ) (before : List ℕ) (from to : ℕ) (answer : First) (after : List ℕ) : Type 0 where
+pub record Dequeued (size : ℕ) (before : List ℕ) (from : ℕ) (answer : First) (after : List ℕ) : Type 0 where
   pub found : answer ≡ first (tablesOf size before) from
-  pub left : Left size after (taken answer to (tablesOf size before))
+  pub left : Left size after (taken answer (tablesOf size before))
   pub real : (t : Thread) → answer ≡ Waiter t → t .0 < size

@@ -1,1 +1,4 @@
 pub mod Good
+pub mod Owners
+pub mod Places
+pub mod Start

@@ -1,27 +1,17 @@
--- Laws of the ready queue: what taking from a queue gave, and who runs next. Assumes nothing.
+-- Laws of the ready queue: who runs next. Assumes nothing.
 use Prim.Native.Nat.{ℕ}
 use mathlib.Core.Bool.{cond}
 use mathlib.Core.List.{List}
-use mathlib.Core.Path.{_≡_, ap, sym, _∙_}
+use mathlib.Core.Path.{_≡_}
 use lib.IntN.{ℤ}
 use lib.ListN.{getD}
 use Rattle.machine.specs.Registers.{halted, nobody, stuck, switched, withState}
 use Rattle.machine.specs.State.{next}
-use Rattle.machine.specs.Tables.{Tables, active, anyLive, first, ready, sent, tablesOf}
+use Rattle.machine.specs.Tables.{Tables, active, anyLive, first, ready, sent}
 use Rattle.machine.specs.declared.numbers.Thread.{Thread}
-use Rattle.machine.specs.declared.numbers.First.{First}
 use Rattle.machine.specs.declared.numbers.First.the-variants.{Waiter, Nobody}
 use Rattle.machine.specs.declared.registers.Registers.{Registers}
 use Rattle.cells.specs.Contract.{at}
-use Rattle.tables.specs.Good.{Dequeued, taken}
-
--- what a queue gave, and the tables without it
-module _ (size : ℕ) (l l′ : List ℕ) (from to : ℕ) (answer first′ : First) (d : Dequeued size l from to answer l′) (e : answer ≡ first′) where
-  pub took-first : first (tablesOf size l) from ≡ first′
-  took-first = sym (d .found) ∙ e
-
-  pub took-tables : tablesOf size l′ ≡ taken first′ to (tablesOf size l)
-  took-tables = d .left .is ∙ ap (λ (a : First). taken a to (tablesOf size l)) e
 
 module _ (size : ℕ) (store values : List ℤ) (tables tables′ : Tables) (r : Registers) where
   -- the first that is ready runs, with what is saved of it

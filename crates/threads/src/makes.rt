@@ -40,7 +40,7 @@ fn make_thread(
     let t = Thread(made);
     new_stack(store, size, t, v);
     tables::save(tables, size, t, entry, sizes::NEW_CELLS, sizes::NEW_FP);
-    tables::send(tables, size, t, tables::READY);
+    tables::make_ready(tables, size, t);
     t
 }
 

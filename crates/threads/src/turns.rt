@@ -16,9 +16,6 @@ use machine::Registers;
 use machine::Thread;
 use machine::states;
 
-// The place of the running thread.
-const ACTIVE: usize = 2;
-
 // With nobody ready: halted if no thread lives, else stuck.
 fn idle(tables: &[usize], size: usize, r: Registers) -> Registers
     requires { ⌜ Good size (now tables) ⌝ }
@@ -36,7 +33,7 @@ pub fn next(tables: &mut [usize], size: usize, r: Registers) -> Registers
     requires { ⌜ Good size (now tables) ⌝ }
     ensures { λ q. ⌜ Goes size (next size) (now (tables .entry)) r (now (tables .exit)) q ⌝ }
 {
-    let First::Waiter(t) = tables::dequeue(tables, size, tables::READY, ACTIVE) else {
+    let First::Waiter(t) = tables::dequeue(tables, size, tables::READY) else {
         return idle(tables, size, r);
     };
     let pc = tables::saved_pc(tables, size, t);

@@ -7,8 +7,8 @@ ghost use Rattle.machine.specs.WellFormed.{ownerFits};
 ghost use Rattle.cells.specs.Contract.{Made};
 ghost use Rattle.tables.specs.Good.{Good};
 use machine::Mutex;
+use machine::Owner;
 use machine::Registers;
-use machine::Thread;
 use machine::sizes;
 
 fn owner_fits(r: Registers, tables: &[usize], size: usize, m: usize) -> bool
@@ -17,9 +17,10 @@ fn owner_fits(r: Registers, tables: &[usize], size: usize, m: usize) -> bool
     requires { ⌜ m < 2 * size ⌝ }
     ensures { λ b. ⌜ b ≡ ownerFits size r (tablesOf size (now (tables .entry))) m ⌝ }
 {
-    let owner = tables::owner(tables, size, Mutex(m));
-    owner == size
-        || m < r.mutexes && (owner < r.threads && tables::lives(tables, size, Thread(owner)))
+    let Owner::Thread(t) = tables::owner(tables, size, Mutex(m)) else {
+        return true;
+    };
+    m < r.mutexes && (t.0 < r.threads && tables::lives(tables, size, t))
 }
 
 pub fn owners_fit(r: Registers, tables: &[usize], size: usize) -> bool

@@ -1,15 +1,19 @@
 // Each thread's place, by what the thread is.
 ghost use mathlib.Core.Path.{_≡_};
-ghost use Prim.Native.Nat.{_<_, _≤_};
+ghost use mathlib.Core.Bool.{not as negate};
+ghost use Prim.Native.Nat.{_*_, _<_, _≤_};
+ghost use lib.Dec.{eqb};
 ghost use Rattle.machine.specs.Lists.{every};
-ghost use Rattle.machine.specs.Tables.{tablesOf};
+ghost use Rattle.machine.specs.Tables.{ownerOf, tablesOf};
 ghost use Rattle.machine.specs.WellFormed.{savedFits, threadFits, waitFits};
 ghost use Rattle.cells.specs.Contract.{Made};
 ghost use Rattle.tables.specs.Good.{Good};
 use machine::Mutex;
+use machine::Owner;
 use machine::Registers;
 use machine::Thread;
 use ranges::frame_fits;
+use tables::Awaited;
 
 fn saved_fits(tables: &[usize], size: usize, t: usize) -> bool
     requires { ⌜ Good size (now tables) ⌝ }
@@ -22,6 +26,17 @@ fn saved_fits(tables: &[usize], size: usize, t: usize) -> bool
     frame_fits(pc, cells, fp)
 }
 
+fn is_owned(tables: &[usize], size: usize, m: Mutex) -> bool
+    requires { ⌜ Good size (now tables) ⌝ }
+    requires { ⌜ m .0 < 2 * size ⌝ }
+    ensures { λ b. ⌜ b ≡ negate (eqb (ownerOf (tablesOf size (now (tables .entry))) (m .0)) size) ⌝ }
+{
+    let Owner::Thread(_) = tables::owner(tables, size, m) else {
+        return false;
+    };
+    true
+}
+
 // What is waited for is made, a mutex has an owner, and a thread has not ended.
 fn wait_fits(r: Registers, tables: &[usize], size: usize, place: usize) -> bool
     requires { ⌜ Good size (now tables) ⌝ }
@@ -29,18 +44,12 @@ fn wait_fits(r: Registers, tables: &[usize], size: usize, place: usize) -> bool
     requires { ⌜ 4 ≤ place ⌝ }
     ensures { λ b. ⌜ b ≡ waitFits size r (tablesOf size (now (tables .entry))) place ⌝ }
 {
-    if place < 4 + 2 * size {
-        let m = place - 4;
-        return m < r.mutexes && tables::owner(tables, size, Mutex(m)) != size;
+    match tables::awaited_at(size, place) {
+        Awaited::Mutex(m) => m.0 < r.mutexes && is_owned(tables, size, m),
+        Awaited::Condition(c) => c.0 < r.conditions,
+        Awaited::Semaphore(k) => k.0 < r.semaphores,
+        Awaited::End(t) => t.0 < r.threads && !tables::has_ended(tables, size, t),
     }
-    if place < 4 + 4 * size {
-        return place - (4 + 2 * size) < r.conditions;
-    }
-    if place < 4 + 5 * size {
-        return place - (4 + 4 * size) < r.semaphores;
-    }
-    let t = place - (4 + 5 * size);
-    t < r.threads && tables::place(tables, size, Thread(t)) != 1
 }
 
 fn thread_fits(r: Registers, tables: &[usize], size: usize, t: usize) -> bool
@@ -51,16 +60,17 @@ fn thread_fits(r: Registers, tables: &[usize], size: usize, t: usize) -> bool
 {
     let place = tables::place(tables, size, Thread(t));
     if r.threads <= t {
-        return place == 0;
+        return place == tables::UNMADE;
     }
     if t == r.thread {
-        return place == 2;
+        return place == tables::RUNNING;
     }
-    if place == 1 {
+    if place == tables::ENDED {
         return true;
     }
     saved_fits(tables, size, t)
-        && (place == tables::READY || 4 <= place && wait_fits(r, tables, size, place))
+        && (place == tables::READY
+            || tables::FIRST_QUEUE <= place && wait_fits(r, tables, size, place))
 }
 
 pub fn threads_fit(r: Registers, tables: &[usize], size: usize) -> bool

@@ -26,7 +26,8 @@ pub fn state_fits(r: Registers, tables: &[usize], size: usize) -> bool
     ensures { λ b. ⌜ b ≡ stateFits size r (tablesOf size (now (tables .entry))) ⌝ }
 {
     if r.thread != size {
-        return r.state == states::RUNNING || (r.state == states::FAULTED || r.state == states::HALTED);
+        return r.state == states::RUNNING
+            || (r.state == states::FAULTED || r.state == states::HALTED);
     }
     if r.state == states::STUCK {
         return !any_ready(tables, size) && tables::any_live(tables, size);

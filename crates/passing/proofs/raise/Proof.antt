@@ -11,6 +11,7 @@ use Rattle.machine.specs.Step.{onward}
 use Rattle.machine.specs.Tables.{tablesOf}
 use Rattle.cells.specs.Contract.{at}
 use Rattle.cells.proofs.Fits.{fits-is, numbered-beyond, numbered-value}
+use Rattle.cells.proofs.Tests.{read-back}
 use Rattle.passing.specs.Contract.{leaves}
 use Rattle.passing.proofs.Laws.{raises}
 use Rattle.passing.proofs.raise.Statement.{statement}
@@ -18,7 +19,7 @@ use Rattle.passing.proofs.raise.Tie as tie
 
 -- the number that was computed of the count
 number : (c : tie.After-add) → narrowed (semaphoreCount (c .before .before .before .before .args .size) (now (c .before .before .before .before .args .values)) (c .before .before .before .before .args .k .0) +ℤ pos 1) ≡ c .add .result
-number c = rw (← (c .before .count .ensures)) (sym (rw (toZ-ofZ (sfits-of {w = w32} {z = c .before .count .result} (c .before .count .ok))) at (c .add .ensures)))
+number c = sym (rw (read-back (c .before .count .ok) (c .before .count .ensures)) at (c .add .ensures))
 
 count-requires : tie.Need-count-requires
 count-requires c κs = search needs
@@ -44,8 +45,8 @@ returns c n store = rw (c .stop .ensures) (ap (leaves _) (sym (fits-is _ _ ∙ n
 set-count-requires : tie.Need-set-count-requires
 set-count-requires c κs = search needs
 
-wake-first-requires : tie.Need-wake-first-requires
-wake-first-requires c κs = search needs
+wake-unless-positive-requires : tie.Need-wake-unless-positive-requires
+wake-unless-positive-requires c κs = search needs
 
 popped-requires : tie.Need-popped-requires
 popped-requires c κs = search needs
@@ -58,8 +59,9 @@ same-length-3 c = search needs
 
 returns-2 : tie.Need-returns-2
 returns-2 c n store =
-    rw (c .popped .ensures, c .before .before .before .wake-first .ensures .is, c .before .before .before .before .before .before .set-count .ensures, toZ-ofZ (sfits-of {w = w32} {z = c .before .before .before .before .before .before .before .before .before .raised .given .0 .0} (c .before .before .before .before .before .before .before .before .known-told .given .0 .1)))
-    (raises (c .before .before .before .before .before .before .before .before .before .before .before .before .before .before .before .args .size) n (onward (at store (tablesOf (c .before .before .before .before .before .before .before .before .before .before .before .before .before .before .before .args .size) (now (c .before .before .before .before .before .before .before .before .before .before .before .before .before .before .before .args .tables))) (now (c .before .before .before .before .before .before .before .before .before .before .before .before .before .before .before .args .values)) (c .before .before .before .before .before .before .before .before .before .before .before .before .before .before .before .args .r))) (c .before .before .before .before .before .before .before .before .before .before .before .before .before .before .before .args .k .0) (c .before .before .before .before .before .before .before .before .before .raised .given .0 .0) ∙ ap (leaves _) (sym (fits-is _ _ ∙ numbered-value _ _ _ (number (c .before .before .before .before .before .before .before .before .before .before .before) ∙ c .before .before .before .before .before .before .before .before .before .raised .given .1))))
+    rw (c .popped .ensures, c .before .before .before .wake-unless-positive .ensures .is, c .before .before .before .before .before .before .set-count .ensures, toZ-ofZ (sfits-of {w = w32} {z = c .before .before .before .before .before .before .before .before .before .raised .given .0 .0} (c .before .before .before .before .before .before .before .before .known-told .given .0 .1)))
+    (raises (c .before .before .before .before .before .before .before .before .before .before .before .before .before .before .before .args .size) n (onward (at store (tablesOf (c .before .before .before .before .before .before .before .before .before .before .before .before .before .before .before .args .size) (now (c .before .before .before .before .before .before .before .before .before .before .before .before .before .before .before .args .tables))) (now (c .before .before .before .before .before .before .before .before .before .before .before .before .before .before .before .args .values)) (c .before .before .before .before .before .before .before .before .before .before .before .before .before .before .before .args .r))) (c .before .before .before .before .before .before .before .before .before .before .before .before .before .before .before .args .k .0) (c .before .before .before .before .before .before .before .before .before .raised .given .0 .0)
+    ∙ ap (leaves _) (sym (fits-is _ _ ∙ numbered-value _ _ _ (number (c .before .before .before .before .before .before .before .before .before .before .before) ∙ c .before .before .before .before .before .before .before .before .before .raised .given .1))))
 
 pub raise-spec : {M : Type 1} → statement M
 raise-spec =
@@ -73,7 +75,7 @@ raise-spec =
     same-length
     returns
     set-count-requires
-    wake-first-requires
+    wake-unless-positive-requires
     popped-requires
     same-length-2
     same-length-3

@@ -7,8 +7,6 @@ use lib.IntN.{ℤ, pos}
 use Rattle.setup.proofs.Filling.{Filled, all-same, none-filled, one-filled}
 use Rattle.setup.proofs.clear.Statement.{statement}
 use Rattle.setup.proofs.clear.Tie as tie
-use Rattle.setup.proofs.clear.Reads as reads
-use Rattle.setup.proofs.clear.Lts as lts
 
 abbrev Inv-loop : tie.InvT-loop
 Inv-loop cells₀ i₀ cells i = (length cells ≡ length cells₀) × (i ≤ length cells) × Filled ℤ cells (λ k. pos 0) (pos 0) i
@@ -16,35 +14,27 @@ Inv-loop cells₀ i₀ cells i = (length cells ≡ length cells₀) × (i ≤ le
 abbrev μ-loop : tie.MeasureT-loop
 μ-loop cells₀ i₀ cells i = length cells₀ - i
 
--- src/lib.rt:17:5
 loop-holds : tie.Need-loop-holds Inv-loop μ-loop
 loop-holds c = (refl, search needs, none-filled)
 
--- src/lib.rt:18:9
 mul-cells : tie.Need-mul-cells Inv-loop μ-loop
 mul-cells c = search needs
 
--- src/lib.rt:18:9
 slice-set-of-cells : tie.Need-slice-set-of-cells Inv-loop μ-loop
 slice-set-of-cells c = search needs
 
--- src/lib.rt:19:9
 add-i : tie.Need-add-i Inv-loop μ-loop
 add-i c = search needs
 
--- src/lib.rt:17:5
 loop-less : tie.Need-loop-less Inv-loop μ-loop
 loop-less c = search needs
 
--- src/lib.rt:17:5
 loop-again : tie.Need-loop-again Inv-loop μ-loop
 loop-again c = (simp length-set (c .before .loop .inv .0), simp length-set (omega arith), one-filled _ (c .loop-test .taken) refl (c .before .loop .inv .2))
 
--- src/lib.rt:13:1
 same-length : tie.Need-same-length Inv-loop μ-loop
 same-length c = c .before .loop .inv .0
 
--- src/lib.rt:13:1
 returns : tie.Need-returns Inv-loop μ-loop
 returns c = all-same _ (c .before .loop .inv .0) (omega (arith, c .before .loop .inv .0, c .loop-test .left)) (c .before .loop .inv .2)
 

@@ -3,14 +3,11 @@ use mathlib.Core.Path.{_≡_, refl, _∙_}
 use native.Mathlib.Omega.{arith}
 use borrow.Author.Needs.{needs}
 use lib.ListN.{length, length-set}
-use Rattle.setup.specs.Start.{startAt}
+use Rattle.tables.specs.Start.{startAt}
 use Rattle.setup.proofs.Filling.{Filled, none-filled, one-filled}
 use Rattle.setup.proofs.Tables.{start-slice}
 use Rattle.setup.proofs.start_tables.Statement.{statement}
 use Rattle.setup.proofs.start_tables.Tie as tie
-use Rattle.setup.proofs.start_tables.Reads as reads
-use Rattle.setup.proofs.start_tables.Lts as lts
-use Rattle.setup.proofs.start_at.Reads as start-at-reads
 
 abbrev Inv-loop : tie.InvT-loop
 Inv-loop tables₀ size i₀ tables i = (length tables ≡ length tables₀) × (i ≤ length tables) × Filled ℕ tables (startAt size) 0 i
@@ -18,39 +15,30 @@ Inv-loop tables₀ size i₀ tables i = (length tables ≡ length tables₀) × 
 abbrev μ-loop : tie.MeasureT-loop
 μ-loop tables₀ size i₀ tables i = length tables₀ - i
 
--- src/lib.rt:45:5
 loop-holds : tie.Need-loop-holds Inv-loop μ-loop
 loop-holds c = (refl, search needs, none-filled)
 
--- src/lib.rt:46:21
 start-at-requires : tie.Need-start-at-requires Inv-loop μ-loop
 start-at-requires c κs = c .before .before .before .pre .small
 
--- src/lib.rt:46:9
 mul-tables : tie.Need-mul-tables Inv-loop μ-loop
 mul-tables c = search needs
 
--- src/lib.rt:46:9
 slice-write-tables : tie.Need-slice-write-tables Inv-loop μ-loop
 slice-write-tables c = search needs
 
--- src/lib.rt:47:9
 add-i : tie.Need-add-i Inv-loop μ-loop
 add-i c = search needs
 
--- src/lib.rt:45:5
 loop-less : tie.Need-loop-less Inv-loop μ-loop
 loop-less c = search needs
 
--- src/lib.rt:45:5
 loop-again : tie.Need-loop-again Inv-loop μ-loop
 loop-again c = (simp length-set (c .before .before .loop .inv .0), simp length-set (omega arith), one-filled _ (c .before .loop-test .taken) (c .start-at .ensures) (c .before .before .loop .inv .2))
 
--- src/lib.rt:40:1
 same-length : tie.Need-same-length Inv-loop μ-loop
 same-length c = c .before .loop .inv .0
 
--- src/lib.rt:40:1
 returns : tie.Need-returns Inv-loop μ-loop
 returns c = start-slice _ (c .before .before .before .pre .some) _ (c .before .loop .inv .0 ∙ c .before .before .before .pre .fits) (λ k h. c .before .loop .inv .2 .so k (omega arith))
 

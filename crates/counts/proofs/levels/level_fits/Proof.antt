@@ -4,14 +4,8 @@ use Rattle.cells.proofs.Tests.{read-back}
 use Rattle.counts.proofs.levels.level_fits.Statement.{statement}
 use Rattle.counts.proofs.levels.level_fits.Tie as tie
 
-mul-waiting : tie.Need-mul-waiting
-mul-waiting c = search needs
-
-add-waiting : tie.Need-add-waiting
-add-waiting c = search needs
-
-add-waiting-2 : tie.Need-add-waiting-2
-add-waiting-2 c = search needs
+at-semaphore-requires : tie.Need-at-semaphore-requires
+at-semaphore-requires c κs = search needs
 
 waiting-requires : tie.Need-waiting-requires
 waiting-requires c κs = search needs
@@ -23,16 +17,9 @@ shortfall-requires : tie.Need-shortfall-requires
 shortfall-requires c κs = search needs
 
 returns : tie.Need-returns
-returns c = rw (c .before .before .waiting .ensures, c .shortfall .ensures, read-back (c .before .count .ok) (c .before .count .ensures))
+returns c = rw (c .before .before .waiting .ensures, c .before .before .before .at-semaphore .ensures, c .shortfall .ensures, read-back (c .before .count .ok) (c .before .count .ensures))
 
 pub level-fits-spec : {M : Type 1} → statement M
 level-fits-spec =
     tie.close
-    (tie.spec
-    mul-waiting
-    add-waiting
-    add-waiting-2
-    waiting-requires
-    count-requires
-    shortfall-requires
-    returns)
+    (tie.spec at-semaphore-requires waiting-requires count-requires shortfall-requires returns)

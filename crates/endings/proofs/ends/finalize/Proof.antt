@@ -1,12 +1,11 @@
 -- `endings::ends::finalize` meets its contract. Assumes nothing.
 use mathlib.Core.Path.{ap, sym, _∙_}
 use native.Mathlib.Omega.{arith}
-use borrow.Author.Needs.{needs, sfits-of}
-use borrow.Author.Tests.{eq-eqb, ne-eqb}
-use mir.Facts.{toZ-ofZ}
-use mir.Syntax.{w32}
+use borrow.Author.Needs.{needs}
+use borrow.Author.Tests.{not-false, not-true}
 use Rattle.machine.proofs.Equations.{carries, faults, finalize-is}
 use Rattle.cells.proofs.Names.{goes-on, passed, stops}
+use Rattle.cells.proofs.Tests.{read-back}
 use Rattle.threads.specs.Contract.{threadNamed}
 use Rattle.endings.proofs.ends.finalize.Statement.{statement}
 use Rattle.endings.proofs.ends.finalize.Tie as tie
@@ -23,8 +22,8 @@ stop-requires c κs = search needs
 enum-known-t : tie.Need-enum-known-t
 enum-known-t c = search needs
 
-place-requires : tie.Need-place-requires
-place-requires c κs = let there = passed _ _ _ _ _ _ _ (c .before .before .before .a-thread .ensures ∙ ap threadNamed (c .before .t .given .1)) in (c .before .before .before .before .before .before .pre .1 .0, omega (arith, there .below, c .before .before .before .before .before .before .pre .1 .1 .1 .threads))
+has-ended-requires : tie.Need-has-ended-requires
+has-ended-requires c κs = let there = passed _ _ _ _ _ _ _ (c .before .before .before .a-thread .ensures ∙ ap threadNamed (c .before .t .given .1)) in (omega (arith, c .before .before .before .before .before .before .pre .1 .0 .long), omega (arith, there .below, c .before .before .before .before .before .before .pre .1 .1 .1 .threads))
 
 stop-requires-2 : tie.Need-stop-requires-2
 stop-requires-2 c κs = search needs
@@ -35,10 +34,10 @@ same-length c = search needs
 returns : tie.Need-returns
 returns c n =
     rw (c .stop2 .ensures)
-    (faults _ n _ _ 29 (finalize-is _ n _ ∙ goes-on _ _ _ _ _ _ _ _ (c .before .before .before .before .before .before .a-thread .ensures ∙ ap threadNamed (c .before .before .before .before .t .given .1)) ∙ rw (ne-eqb _ _ (λ e. c .before .if1 .taken (c .before .before .place .ensures ∙ e)))))
+    (faults _ n _ _ 29 (finalize-is _ n _ ∙ goes-on _ _ _ _ _ _ _ _ (c .before .before .before .before .before .before .a-thread .ensures ∙ ap threadNamed (c .before .before .before .before .t .given .1)) ∙ rw (sym (c .before .before .has-ended .ensures) ∙ not-true _ (c .before .if1 .taken))))
 
-read-requires : tie.Need-read-requires
-read-requires c κs = let there = passed _ _ _ _ _ _ _ (c .before .before .before .before .before .a-thread .ensures ∙ ap threadNamed (c .before .before .before .t .given .1)) in omega (arith, there .below, c .before .before .before .before .before .before .before .before .pre .1 .1 .0, c .before .before .before .before .before .before .before .before .pre .1 .1 .1 .threads)
+result-requires : tie.Need-result-requires
+result-requires c κs = let there = passed _ _ _ _ _ _ _ (c .before .before .before .before .before .a-thread .ensures ∙ ap threadNamed (c .before .before .before .t .given .1)) in omega (arith, there .below, c .before .before .before .before .before .before .before .before .pre .1 .1 .0, c .before .before .before .before .before .before .before .before .pre .1 .1 .1 .threads)
 
 sub-poke : tie.Need-sub-poke
 sub-poke c = let there = passed _ _ _ _ _ _ _ (c .before .before .before .before .before .before .before .a-thread .ensures ∙ ap threadNamed (c .before .before .before .before .before .t .given .1)) in omega (arith, there .enough)
@@ -60,8 +59,8 @@ same-length-3 c = search needs
 
 returns-3 : tie.Need-returns-3
 returns-3 c n =
-    rw (c .advance .ensures, c .before .before .poke .ensures, toZ-ofZ (sfits-of {w = w32} {z = c .before .before .before .before .read .result} (c .before .before .before .before .read .ok)), c .before .before .before .before .read .ensures)
-    (carries _ n _ _ _ (finalize-is _ n _ ∙ goes-on _ _ _ _ _ _ _ _ (c .before .before .before .before .before .before .before .before .before .before .a-thread .ensures ∙ ap threadNamed (c .before .before .before .before .before .before .before .before .t .given .1)) ∙ rw (eq-eqb _ _ (sym (c .before .before .before .before .before .before .place .ensures) ∙ c .before .before .before .before .before .if1 .left))))
+    rw (c .advance .ensures, c .before .before .poke .ensures, read-back (c .before .before .before .before .result .ok) (c .before .before .before .before .result .ensures))
+    (carries _ n _ _ _ (finalize-is _ n _ ∙ goes-on _ _ _ _ _ _ _ _ (c .before .before .before .before .before .before .before .before .before .before .a-thread .ensures ∙ ap threadNamed (c .before .before .before .before .before .before .before .before .t .given .1)) ∙ rw (sym (c .before .before .before .before .before .before .has-ended .ensures) ∙ not-false _ (c .before .before .before .before .before .if1 .left))))
 
 pub finalize-spec : {M : Type 1} → statement M
 finalize-spec =
@@ -71,11 +70,11 @@ finalize-spec =
     enum-known-number
     stop-requires
     enum-known-t
-    place-requires
+    has-ended-requires
     stop-requires-2
     same-length
     returns
-    read-requires
+    result-requires
     sub-poke
     poke-requires
     advance-requires

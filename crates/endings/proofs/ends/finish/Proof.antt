@@ -1,16 +1,16 @@
 -- `endings::ends::finish` meets its contract. Assumes nothing.
-use borrow.Author.Needs.{needs}
 use mathlib.Core.Path.{ap, _∙_}
+use borrow.Author.Needs.{needs}
 use mir.Facts.{toZ-ofZ}
 use Rattle.machine.specs.State.{finished, next}
 use Rattle.endings.proofs.ends.finish.Statement.{statement}
 use Rattle.endings.proofs.ends.finish.Tie as tie
 
-write-requires : tie.Need-write-requires
-write-requires c κs = search needs
+set-result-requires : tie.Need-set-result-requires
+set-result-requires c κs = search needs
 
-queue-of-requires : tie.Need-queue-of-requires
-queue-of-requires c κs = search needs
+at-end-requires : tie.Need-at-end-requires
+at-end-requires c κs = search needs
 
 wake-all-requires : tie.Need-wake-all-requires
 wake-all-requires c κs = search needs
@@ -34,14 +34,14 @@ returns : tie.Need-returns
 unfolding finished
 returns c store =
     c .before .before .next .ensures .is store _
-    ∙ ap (next _) (rw (c .before .before .before .with-state .ensures, c .before .before .before .before .before .before .before .send .ensures .is, c .before .before .before .before .before .before .before .before .before .before .before .wake-all .ensures .is, c .before .before .before .before .before .before .before .before .before .before .before .before .queue-of .ensures, c .before .before .before .before .before .before .before .before .before .before .before .before .before .before .before .write .ensures, toZ-ofZ (c .before .before .before .before .before .before .before .before .before .before .before .before .before .before .before .before .before .before .fits .v)))
+    ∙ ap (next _) (rw (c .before .before .before .with-state .ensures, c .before .before .before .before .before .before .before .send .ensures .is, c .before .before .before .before .before .before .before .before .before .before .before .wake-all .ensures .is, c .before .before .before .before .before .before .before .before .before .before .before .before .at-end .ensures, c .before .before .before .before .before .before .before .before .before .before .before .before .before .before .before .set-result .ensures, toZ-ofZ (c .before .before .before .before .before .before .before .before .before .before .before .before .before .before .before .before .before .before .fits .v)))
 
 pub finish-spec : {M : Type 1} → statement M
 finish-spec =
     tie.close
     (tie.spec
-    write-requires
-    queue-of-requires
+    set-result-requires
+    at-end-requires
     wake-all-requires
     send-requires
     with-state-requires

@@ -2,7 +2,6 @@
 use mathlib.Core.Path.{ap, sym, _∙_}
 use native.Mathlib.Omega.{arith}
 use borrow.Author.Needs.{needs}
-use borrow.Author.Tests.{eq-eqb, ne-eqb}
 use denote.Ref.{now}
 use Rattle.machine.proofs.Equations.{carries, faults, join-is}
 use Rattle.cells.proofs.Names.{goes-on, passed, stops}
@@ -22,8 +21,8 @@ stop-requires c κs = search needs
 enum-known-t : tie.Need-enum-known-t
 enum-known-t c = search needs
 
-place-requires : tie.Need-place-requires
-place-requires c κs = let there = passed _ _ _ _ _ _ _ (c .before .before .before .before .a-thread .ensures ∙ ap threadNamed (c .before .before .t .given .1)) in (c .before .before .before .before .before .before .pre .1 .0, omega (arith, there .below, c .before .before .before .before .before .before .pre .1 .1 .threads))
+has-ended-requires : tie.Need-has-ended-requires
+has-ended-requires c κs = let there = passed _ _ _ _ _ _ _ (c .before .before .before .before .a-thread .ensures ∙ ap threadNamed (c .before .before .t .given .1)) in (omega (arith, c .before .before .before .before .before .before .pre .1 .0 .long), omega (arith, there .below, c .before .before .before .before .before .before .pre .1 .1 .threads))
 
 advance-requires : tie.Need-advance-requires
 advance-requires c κs = search needs
@@ -34,13 +33,13 @@ same-length c = search needs
 returns : tie.Need-returns
 returns c n values =
     rw (c .advance .ensures)
-    (carries _ n _ _ _ (join-is _ n _ ∙ goes-on _ _ _ _ _ _ _ _ (c .before .before .before .before .before .before .before .a-thread .ensures ∙ ap threadNamed (c .before .before .before .before .before .t .given .1)) ∙ rw (eq-eqb _ _ (sym (c .before .before .place .ensures) ∙ c .before .if1 .taken))))
+    (carries _ n _ _ _ (join-is _ n _ ∙ goes-on _ _ _ _ _ _ _ _ (c .before .before .before .before .before .before .before .a-thread .ensures ∙ ap threadNamed (c .before .before .before .before .before .t .given .1)) ∙ rw (sym (c .before .before .has-ended .ensures) ∙ c .before .if1 .taken)))
 
 advance-requires-2 : tie.Need-advance-requires-2
 advance-requires-2 c κs = search needs
 
-queue-of-requires : tie.Need-queue-of-requires
-queue-of-requires c κs = let there = passed _ _ _ _ _ _ _ (c .before .before .before .before .before .before .before .before .a-thread .ensures ∙ ap threadNamed (c .before .before .before .before .before .before .t .given .1)) in (c .before .before .before .before .before .before .before .before .before .before .pre .0 .small, omega (arith, there .below, c .before .before .before .before .before .before .before .before .before .before .pre .1 .1 .threads))
+at-end-requires : tie.Need-at-end-requires
+at-end-requires c κs = let there = passed _ _ _ _ _ _ _ (c .before .before .before .before .before .before .before .before .a-thread .ensures ∙ ap threadNamed (c .before .before .before .before .before .before .t .given .1)) in (c .before .before .before .before .before .before .before .before .before .before .pre .0 .small, omega (arith, there .below, c .before .before .before .before .before .before .before .before .before .before .pre .1 .1 .threads))
 
 block-requires : tie.Need-block-requires
 block-requires c κs = rw (c .before .advance2 .ensures) (c .before .before .before .before .before .before .before .before .before .before .before .pre .1 .0, c .before .before .before .before .before .before .before .before .before .before .before .pre .0 .thread)
@@ -53,8 +52,8 @@ same-length-2 c = search needs
 
 returns-3 : tie.Need-returns-3
 returns-3 c n values =
-    rw (c .before .before .before .before .advance2 .ensures, c .before .before .before .queue-of .ensures) at (c .before .before .block .ensures .is (now (c .before .before .before .before .before .before .before .before .before .before .before .before .before .before .args .store)) values)
-    ∙ carries _ n _ _ _ (join-is _ n _ ∙ goes-on _ _ _ _ _ _ _ _ (c .before .before .before .before .before .before .before .before .before .before .before .before .a-thread .ensures ∙ ap threadNamed (c .before .before .before .before .before .before .before .before .before .before .t .given .1)) ∙ rw (ne-eqb _ _ (λ e. c .before .before .before .before .before .before .if1 .left (c .before .before .before .before .before .before .before .place .ensures ∙ e))))
+    rw (c .before .before .before .before .advance2 .ensures, c .before .before .before .at-end .ensures) at (c .before .before .block .ensures .is (now (c .before .before .before .before .before .before .before .before .before .before .before .before .before .before .args .store)) values)
+    ∙ carries _ n _ _ _ (join-is _ n _ ∙ goes-on _ _ _ _ _ _ _ _ (c .before .before .before .before .before .before .before .before .before .before .before .before .a-thread .ensures ∙ ap threadNamed (c .before .before .before .before .before .before .before .before .before .before .t .given .1)) ∙ rw (sym (c .before .before .before .before .before .before .before .has-ended .ensures) ∙ c .before .before .before .before .before .before .if1 .left))
 
 pub join-spec : {M : Type 1} → statement M
 join-spec =
@@ -64,12 +63,12 @@ join-spec =
     enum-known-number
     stop-requires
     enum-known-t
-    place-requires
+    has-ended-requires
     advance-requires
     same-length
     returns
     advance-requires-2
-    queue-of-requires
+    at-end-requires
     block-requires
     returns-2
     same-length-2

@@ -2,6 +2,7 @@
 use mathlib.Core.Path.{ap, sym, _∙_}
 use native.Mathlib.Omega.{arith}
 use borrow.Author.Needs.{needs}
+use borrow.Author.Tests.{not-false, not-true}
 use Rattle.machine.proofs.Equations.{carries, faults, unlock-is}
 use Rattle.cells.proofs.Names.{goes-on, passed, stops}
 use Rattle.locks.specs.Numbers.{mutexNamed}
@@ -21,8 +22,8 @@ stop-requires c κs = search needs
 enum-known-m : tie.Need-enum-known-m
 enum-known-m c = search needs
 
-owner-requires : tie.Need-owner-requires
-owner-requires c κs = let there = passed _ _ _ _ _ _ _ (c .before .before .before .before .a-mutex .ensures ∙ ap mutexNamed (c .before .before .m .given .1)) in (c .before .before .before .before .before .before .pre .1 .0, omega (arith, there .below, c .before .before .before .before .before .before .pre .1 .1 .mutexes))
+owns-requires : tie.Need-owns-requires
+owns-requires c κs = let there = passed _ _ _ _ _ _ _ (c .before .before .before .before .a-mutex .ensures ∙ ap mutexNamed (c .before .before .m .given .1)) in (c .before .before .before .before .before .before .pre .1 .0, (c .before .before .before .before .before .before .pre .0 .thread, omega (arith, there .below, c .before .before .before .before .before .before .pre .1 .1 .mutexes)))
 
 stop-requires-2 : tie.Need-stop-requires-2
 stop-requires-2 c κs = search needs
@@ -33,13 +34,13 @@ same-length c = search needs
 returns : tie.Need-returns
 returns c n values =
     rw (c .stop2 .ensures)
-    (faults _ n _ _ 28 (unlock-is _ n _ ∙ goes-on _ _ _ _ _ _ _ _ (c .before .before .before .before .before .before .before .before .a-mutex .ensures ∙ ap mutexNamed (c .before .before .before .before .before .before .m .given .1)) ∙ owns-not _ _ _ _ _ (λ e. c .before .if1 .taken (c .before .before .before .owner .ensures ∙ e))))
+    (faults _ n _ _ 28 (unlock-is _ n _ ∙ goes-on _ _ _ _ _ _ _ _ (c .before .before .before .before .before .before .before .a-mutex .ensures ∙ ap mutexNamed (c .before .before .before .before .before .m .given .1)) ∙ owns-not _ _ _ _ _ (sym (c .before .before .owns .ensures) ∙ not-true _ (c .before .if1 .taken))))
 
 unlock-mutex-requires : tie.Need-unlock-mutex-requires
-unlock-mutex-requires c κs = let there = passed _ _ _ _ _ _ _ (c .before .before .before .before .before .before .before .before .a-mutex .ensures ∙ ap mutexNamed (c .before .before .before .before .before .before .m .given .1)) in (c .before .before .before .before .before .before .before .before .before .before .pre .1 .0, omega (arith, there .below, c .before .before .before .before .before .before .before .before .before .before .pre .1 .1 .mutexes))
+unlock-mutex-requires c κs = let there = passed _ _ _ _ _ _ _ (c .before .before .before .before .before .before .before .a-mutex .ensures ∙ ap mutexNamed (c .before .before .before .before .before .m .given .1)) in (c .before .before .before .before .before .before .before .before .before .pre .1 .0, omega (arith, there .below, c .before .before .before .before .before .before .before .before .before .pre .1 .1 .mutexes))
 
 popped-requires : tie.Need-popped-requires
-popped-requires c κs = let there = passed _ _ _ _ _ _ _ (c .before .before .before .before .before .before .before .before .before .before .before .a-mutex .ensures ∙ ap mutexNamed (c .before .before .before .before .before .before .before .before .before .m .given .1)) in (c .before .before .before .before .before .before .before .before .before .before .before .before .before .pre .0 .pc, there .enough)
+popped-requires c κs = let there = passed _ _ _ _ _ _ _ (c .before .before .before .before .before .before .before .before .before .before .a-mutex .ensures ∙ ap mutexNamed (c .before .before .before .before .before .before .before .before .m .given .1)) in (c .before .before .before .before .before .before .before .before .before .before .before .before .pre .0 .pc, there .enough)
 
 returns-2 : tie.Need-returns-2
 returns-2 c n values = rw (c .stop .ensures) (faults _ n _ _ _ (unlock-is _ n _ ∙ stops _ _ _ _ _ _ _ _ (c .before .before .before .before .a-mutex .ensures ∙ ap mutexNamed (c .before .before .number .given .1))))
@@ -50,7 +51,7 @@ same-length-2 c = search needs
 returns-3 : tie.Need-returns-3
 returns-3 c n values =
     rw (c .popped .ensures, c .before .before .before .unlock-mutex .ensures .is)
-    (carries _ n _ _ _ (unlock-is _ n _ ∙ goes-on _ _ _ _ _ _ _ _ (c .before .before .before .before .before .before .before .before .before .before .before .before .a-mutex .ensures ∙ ap mutexNamed (c .before .before .before .before .before .before .before .before .before .before .m .given .1)) ∙ owns-it _ _ _ _ _ (sym (c .before .before .before .before .before .before .before .owner .ensures) ∙ c .before .before .before .before .before .if1 .left)))
+    (carries _ n _ _ _ (unlock-is _ n _ ∙ goes-on _ _ _ _ _ _ _ _ (c .before .before .before .before .before .before .before .before .before .before .before .a-mutex .ensures ∙ ap mutexNamed (c .before .before .before .before .before .before .before .before .before .m .given .1)) ∙ owns-it _ _ _ _ _ (sym (c .before .before .before .before .before .before .owns .ensures) ∙ not-false _ (c .before .before .before .before .before .if1 .left))))
 
 pub unlock-spec : {M : Type 1} → statement M
 unlock-spec =
@@ -60,7 +61,7 @@ unlock-spec =
     enum-known-number
     stop-requires
     enum-known-m
-    owner-requires
+    owns-requires
     stop-requires-2
     same-length
     returns

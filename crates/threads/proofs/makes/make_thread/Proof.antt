@@ -11,8 +11,8 @@ new-stack-requires c κs = search needs
 save-requires : tie.Need-save-requires
 save-requires c κs = search needs
 
-send-requires : tie.Need-send-requires
-send-requires c κs = search needs
+make-ready-requires : tie.Need-make-ready-requires
+make-ready-requires c κs = search needs
 
 same-length : tie.Need-same-length
 same-length c = search needs
@@ -26,8 +26,8 @@ returns c = (
   (
     rw (toZ-ofZ (c .before .before .before .before .before .before .before .before .before .before .before .before .fits .v)) at (c .before .before .before .before .before .before .before .before .before .new-stack .ensures),
     record {
-      is = rw (← c .before .before .before .before .before .before .save .ensures .is) (c .before .before .send .ensures .is);
-      good = c .before .before .send .ensures .good;
+      is = rw (← c .before .before .before .before .before .before .save .ensures .is) (c .before .before .make-ready .ensures .is);
+      good = c .before .before .make-ready .ensures .good;
     },
   ),
 )
@@ -35,4 +35,4 @@ returns c = (
 pub make-thread-spec : {M : Type 1} → statement M
 make-thread-spec =
     tie.close
-    (tie.spec new-stack-requires save-requires send-requires same-length same-length-2 returns)
+    (tie.spec new-stack-requires save-requires make-ready-requires same-length same-length-2 returns)

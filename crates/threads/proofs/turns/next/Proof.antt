@@ -1,6 +1,7 @@
 -- `threads::turns::next` meets its contract. Assumes nothing.
 use borrow.Author.Needs.{needs}
-use Rattle.threads.proofs.Ready.{first-runs, nobody-runs, took-first, took-tables}
+use Rattle.tables.proofs.Waking.{took-first, took-tables}
+use Rattle.threads.proofs.Ready.{first-runs, nobody-runs}
 use Rattle.threads.proofs.turns.next.Statement.{statement}
 use Rattle.threads.proofs.turns.next.Tie as tie
 
@@ -24,7 +25,7 @@ returns c =
     let d = c .before .before .before .before .before .before .dequeue .ensures in
     let none = c .before .before .enum-told .given .1 in
     record {
-      is = λ store values. rw (c .idle .ensures) (nobody-runs _ store values _ _ _ (took-first _ _ _ _ _ _ _ d none) (took-tables _ _ _ _ _ _ _ d none));
+      is = λ store values. rw (c .idle .ensures) (nobody-runs _ store values _ _ _ (took-first _ _ _ _ _ _ d none) (took-tables _ _ _ _ _ _ d none));
       good = d .left .good;
     }
 
@@ -48,7 +49,7 @@ returns-2 c =
     let d = c .before .before .before .before .before .before .before .before .before .before .before .before .dequeue .ensures in
     let who = c .before .before .before .before .before .before .before .before .t .given .1 in
     record {
-      is = λ store values. rw (c .switch .ensures, c .before .before .before .before .before .saved-pc .ensures, c .before .before .before .saved-cells .ensures, c .before .saved-fp .ensures) (first-runs _ store values _ _ _ _ (took-first _ _ _ _ _ _ _ d who) (took-tables _ _ _ _ _ _ _ d who));
+      is = λ store values. rw (c .switch .ensures, c .before .before .before .before .before .saved-pc .ensures, c .before .before .before .saved-cells .ensures, c .before .saved-fp .ensures) (first-runs _ store values _ _ _ _ (took-first _ _ _ _ _ _ d who) (took-tables _ _ _ _ _ _ d who));
       good = d .left .good;
     }
 

@@ -1,0 +1,57 @@
+-- `tables::queues::dequeue` meets its contract. Assumes nothing.
+use Prim.Native.Nat.{ℕ}
+use mathlib.Core.Path.{_≡_, refl, sym, _∙_}
+use native.Mathlib.Omega.{arith}
+use borrow.Author.Needs.{needs}
+use Rattle.tables.proofs.Line.{found-real}
+use Rattle.tables.proofs.queues.dequeue.Statement.{statement}
+use Rattle.tables.proofs.queues.dequeue.Tie as tie
+
+find-requires : tie.Need-find-requires
+find-requires c κs = search needs
+
+enum-known-found : tie.Need-enum-known-found
+enum-known-found c = search needs
+
+enum-told : tie.Need-enum-told
+enum-told c = search needs
+
+same-length : tie.Need-same-length
+same-length c = search needs
+
+returns : tie.Need-returns
+returns c =
+    let nobody = c .enum-told .given .1 in
+    record {
+      found = sym nobody ∙ c .before .before .find .ensures;
+      left = record { is = refl; good = c .before .before .before .before .before .pre };
+      real = λ t e. absurd (let z : _≡_ {A = ℕ} 0 1 = cc in omega arith);
+    }
+
+send-requires : tie.Need-send-requires
+send-requires c κs = (c .before .before .before .before .before .before .before .pre, found-real _ _ (c .before .before .before .before .before .before .before .pre) _ _ (sym (c .before .before .before .before .find .ensures) ∙ c .before .before .found .given .1))
+
+same-length-2 : tie.Need-same-length-2
+same-length-2 c = search needs
+
+returns-2 : tie.Need-returns-2
+returns-2 c =
+    let waiter = c .before .before .before .before .before .found .given .1 in
+    record {
+      found = sym waiter ∙ c .before .before .before .before .before .before .before .find .ensures;
+      left = c .before .before .send .ensures;
+      real = λ t e. found-real _ _ (c .before .before .before .before .before .before .before .before .before .before .pre) _ _ (sym (c .before .before .before .before .before .before .before .find .ensures) ∙ waiter ∙ e);
+    }
+
+pub dequeue-spec : {M : Type 1} → statement M
+dequeue-spec =
+    tie.close
+    (tie.spec
+    find-requires
+    enum-known-found
+    enum-told
+    same-length
+    returns
+    send-requires
+    same-length-2
+    returns-2)

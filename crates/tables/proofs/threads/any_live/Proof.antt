@@ -1,0 +1,54 @@
+-- `tables::threads::any_live` meets its contract. Assumes nothing.
+use Prim.Native.Nat.{ℕ, _-_, _<_}
+use mathlib.Core.Path.{_≡_, sym, _∙_}
+use mathlib.Core.Bool.{false}
+use native.Mathlib.Omega.{arith}
+use borrow.Author.Count.{below-more, below-none}
+use borrow.Author.Needs.{needs}
+use Rattle.machine.specs.Tables.{anyLive, lives, tablesOf}
+use Rattle.machine.proofs.Every.{false-some, true-some}
+use Rattle.tables.proofs.threads.any_live.Statement.{statement}
+use Rattle.tables.proofs.threads.any_live.Tie as tie
+
+abbrev Inv-loop : tie.InvT-loop
+Inv-loop tables size t₀ t = (k : ℕ) → k < t → lives (tablesOf size tables) k ≡ false
+
+abbrev μ-loop : tie.MeasureT-loop
+μ-loop tables size t₀ t = size - t
+
+loop-holds : tie.Need-loop-holds Inv-loop μ-loop
+loop-holds c = below-none _
+
+lives-requires : tie.Need-lives-requires Inv-loop μ-loop
+lives-requires c κs = search needs
+
+returns : tie.Need-returns Inv-loop μ-loop
+unfolding anyLive
+returns c = sym (true-some _ _ _ (c .before .before .loop-test .taken) (sym (c .before .lives .ensures) ∙ c .if1 .taken))
+
+add-t : tie.Need-add-t Inv-loop μ-loop
+add-t c = search needs
+
+loop-less : tie.Need-loop-less Inv-loop μ-loop
+loop-less c = search needs
+
+loop-again : tie.Need-loop-again Inv-loop μ-loop
+loop-again c = below-more _ _ (c .before .before .before .loop .inv) (sym (c .before .lives .ensures) ∙ c .if1 .left)
+
+returns-2 : tie.Need-returns-2 Inv-loop μ-loop
+unfolding anyLive
+returns-2 c = sym (false-some _ _ (λ k h. c .before .loop .inv k (omega arith)))
+
+pub any-live-spec : {M : Type 1} → statement M
+any-live-spec =
+    tie.close
+    (tie.spec
+    Inv-loop
+    μ-loop
+    loop-holds
+    lives-requires
+    returns
+    add-t
+    loop-less
+    loop-again
+    returns-2)
