@@ -19,7 +19,8 @@ fn counts_fit(r: Registers, size: usize) -> bool
     ensures { λ b. ⌜ b ≡ countsFit size r ⌝ }
 {
     in_range(1, size, r.threads)
-        && (r.mutexes <= sizes::MUTEXES * size && (r.conditions <= sizes::CONDITIONS * size && r.semaphores <= size))
+        && (r.mutexes <= sizes::MUTEXES * size
+            && (r.conditions <= sizes::CONDITIONS * size && r.semaphores <= size))
 }
 
 // PC, the number of cells and FP, of the registers or of a saved thread.
@@ -36,7 +37,8 @@ pub fn registers_fit(r: Registers, size: usize) -> bool
 {
     counts_fit(r, size)
         && (frame_fits(r.pc, r.cells, r.fp)
-            && (in_range(1, sizes::SHARED * size, r.free) && (r.thread < r.threads || r.thread == size)))
+            && (in_range(1, sizes::SHARED * size, r.free)
+                && (r.thread < r.threads || r.thread == size)))
 }
 
 // A number of the table from 20 up.

@@ -15,6 +15,13 @@ use Rattle.machine.proofs.Every.{and-first, and-second, and-true, below-none, e
 use Rattle.cells.specs.Contract.{Made}
 use Rattle.tables.specs.Good.{Good}
 
+-- the tables and the values have their sizes
+pub lined : (size : ℕ) (l : List ℕ) (values : List ℤ) → tablesFit size l values ≡ true → length l ≡ 7 * size
+lined size l values sizes = eqb-true (length l) (7 * size) (and-first (eqb (length l) (7 * size)) (eqb (length values) (2 * size)) sizes)
+
+pub valued : (size : ℕ) (l : List ℕ) (values : List ℤ) → tablesFit size l values ≡ true → length values ≡ 2 * size
+valued size l values sizes = eqb-true (length values) (2 * size) (and-second (eqb (length l) (7 * size)) (eqb (length values) (2 * size)) sizes)
+
 -- what passed the tests is what the functions on tables ask
 pub good : (size : ℕ) (l : List ℕ) (values : List ℤ) → size ≤ 32 → tablesFit size l values ≡ true → lineFits size (tablesOf size l .line) ≡ true → Good size l
 good size l values small sizes e =
@@ -23,17 +30,13 @@ good size l values small sizes e =
     let p = and-true (allBelow size line) (every size once) e in
     record {
       small = small;
-      long = eqb-true (length l) (7 * size) (and-first (eqb (length l) (7 * size)) (eqb (length values) (2 * size)) sizes);
+      long = lined size l values sizes;
       line =
           record {
             once = λ t h. eqb-true (count t line) 1 (every-true size once (p .1) t h);
             no-other = λ t h. below-none size line (p .0) t h;
           };
     }
-
--- the values have their size
-pub valued : (size : ℕ) (l : List ℕ) (values : List ℤ) → tablesFit size l values ≡ true → length values ≡ 2 * size
-valued size l values sizes = eqb-true (length values) (2 * size) (and-second (eqb (length l) (7 * size)) (eqb (length values) (2 * size)) sizes)
 
 pub made : (size : ℕ) (r : Registers) → registersFit size r ≡ true → Made size r
 made size r e =

@@ -7,7 +7,7 @@ use lib.ListN.{length}
 use Rattle.machine.specs.WellFormed.{formed, wellFormed}
 use Rattle.cells.specs.Contract.{Made}
 use Rattle.tables.specs.Good.{Good}
-use Rattle.wellformed.proofs.Passed.{good, made, valued}
+use Rattle.wellformed.proofs.Passed.{good, lined, made, valued}
 use borrow.Author.Needs.{needs}
 use Rattle.wellformed.proofs.well_formed.Statement.{statement}
 use Rattle.wellformed.proofs.well_formed.Tie as tie
@@ -41,7 +41,7 @@ unfolding wellFormed formed
 returns-2 c = rw (← (c .before .before .before .sizes-fit .ensures), not-false (c .before .before .before .sizes-fit .result) (c .before .before .if1 .left), ← (c .before .registers-fit .ensures), not-true (c .before .registers-fit .result) (c .if2 .taken))
 
 line-fits-requires : tie.Need-line-fits-requires
-line-fits-requires c κs = search needs
+line-fits-requires c κs = (c .before .before .before .before .before .pre, lined (c .before .before .before .before .before .args .size) (now (c .before .before .before .before .before .args .tables)) (now (c .before .before .before .before .before .args .values)) (sym (c .before .before .before .sizes-fit .ensures) ∙ not-false (c .before .before .before .sizes-fit .result) (c .before .before .if1 .left)))
 
 returns-3 : tie.Need-returns-3
 unfolding wellFormed formed
