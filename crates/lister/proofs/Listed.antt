@@ -1,22 +1,21 @@
 -- Laws of listing one line: what the answer is, and what it leaves. Assumes nothing.
 use Prim.Native.Nat.{ℕ, zero, suc, _+_, _-_, _*_, _≤_, _<_}
-use mathlib.Core.Bool.{Bool, true, false, cond}
 use mathlib.Core.List.{List, _++_}
 use mathlib.Core.Logic.{_≢_}
 use mathlib.Core.Path.{_≡_, refl, sym, _∙_, ap}
 use native.Mathlib.Omega.{arith}
-use borrow.Author.Tests.{le-ltb, leb-false, leb-true, lt-ltb}
-use lib.ListN.{drop, length}
+use borrow.Author.Tests.{le-ltb, lt-ltb}
+use lib.ListN.{drop, length, take}
 use lib.Seq.{sets, sets-eq}
 use Rattle.instruction.specs.Bytes.{wordAt}
 use Rattle.card.specs.Image.{Headed, cellsOf, countOf, readOf}
 use Rattle.card.specs.declared.reader.Reading.the-variants as reading
 use Rattle.card.proofs.Header.{accepts, headed}
-use Rattle.text.specs.Lines.{line}
-use Rattle.text.specs.Bytes.{bytes}
-use Rattle.lister.specs.Filling.{filled, hasRoom, lineText, reached}
+use Rattle.text.specs.Lines.{Puts}
+use Rattle.lister.specs.Filling.{lineText}
 use Rattle.lister.specs.Listing.{Leaves, Lists, contentOf, imageLine, lineOf, listOf}
 use Rattle.lister.specs.declared.listing.Listing.the-variants.{Written, Past, Refused}
+use Rattle.lister.proofs.Spelled.{start}
 
 -- ---- what a line shows
 
@@ -29,45 +28,30 @@ word-shown image (suc index) ne = let same : suc index - 1 ≡ index = omega ari
 
 -- ---- a line of an accepted image
 
--- no line is empty
-some-text : (line content : ℕ) → 1 ≤ length (lineText line content)
-unfolding bytes line
-some-text zero content = omega arith
-some-text (suc index) content = omega arith
-
 module _ (image before : List ℕ) (line : ℕ) where
   pub past : countOf image < line → Leaves (lineOf image line (length before)) image line before Past before
   past h = rw (lt-ltb _ _ h) (record { answered = refl; left = refl })
 
-  module _ (content n : ℕ) (after : List ℕ) (h : line ≤ countOf image) (shown : content ≡ contentOf image line) (at : n ≡ reached before 0 (lineText line content)) (is : after ≡ filled before 0 (lineText line content)) where
-    text : List ℕ
-    text = imageLine image line
+  -- the line, of n bytes, was made at the start of another buffer
+  module _ (content n : ℕ) {lent made : List ℕ} (h : line ≤ countOf image) (shown : content ≡ contentOf image line)
+      (put : Puts (lineText line content) lent 0 made n) where
+    reached : n ≡ 0 + length (imageLine image line)
+    reached = rw (← shown) (put .reached)
 
-    by-room : (room : Bool) → hasRoom before 0 text ≡ room → n ≡ cond room (0 + length text) 0 → after ≡ cond room (sets before 0 text) before →
-        (n ≡ 0 → Leaves (lineOf image line (length before)) image line before (Refused 43 0) after)
-        × (n ≢ 0 → Leaves (lineOf image line (length before)) image line before (Written n) after)
-    unfolding text
-    by-room true room size left =
-        let fits : length text ≤ length before = omega (arith, leb-true (0 + length text) (length before) room) in
-        let written : after ≡ text ++ drop n before = left ∙ sets-eq text before 0 (omega (arith, fits)) ∙ ap (λ (k : ℕ). text ++ drop k before) (sym size) in
-        let all : n ≡ length text = omega (arith, size) in (
-          λ none. absurd (omega (arith, none, size, some-text line (contentOf image line))),
-          λ some. rw (le-ltb _ _ h, le-ltb _ _ fits, ← all) (record { answered = refl; left = written }),
-        )
-    by-room false room size left =
-        let full : length before < length text = omega (arith, leb-false (0 + length text) (length before) room) in
-        (λ none. rw (le-ltb _ _ h, lt-ltb _ _ full) (record { answered = refl; left = left }), λ some. absurd (some size))
+    size : n ≡ length (imageLine image line)
+    size = omega (arith, reached)
 
-    both-ways : (n ≡ 0 → Leaves (lineOf image line (length before)) image line before (Refused 43 0) after)
-        × (n ≢ 0 → Leaves (lineOf image line (length before)) image line before (Written n) after)
-    unfolding text
-    both-ways = by-room (hasRoom before 0 text) refl (rw shown at at) (rw shown at is)
+    pub no-room : length before < n → Leaves (lineOf image line (length before)) image line before (Refused 43 0) before
+    no-room full = rw (le-ltb _ _ h, ← size, lt-ltb _ _ full) (record { answered = refl; left = refl })
 
-    pub no-room : n ≡ 0 → Leaves (lineOf image line (length before)) image line before (Refused 43 0) after
-    no-room = both-ways .0
-
-    pub put : n ≢ 0 → Leaves (lineOf image line (length before)) image line before (Written n) after
-    put = both-ways .1
+    pub copied : {after : List ℕ} {next : ℕ} → n ≤ length before → n ≤ length lent → Puts (take n made) before 0 after next
+        → Leaves (lineOf image line (length before)) image line before (Written n) after
+    copied {after} {next} fits room p =
+        let text : take n made ≡ imageLine image line = start put room ∙ ap (lineText line) shown in
+        let left : after ≡ imageLine image line ++ drop n before =
+        p .written ∙ ap (sets before 0) text ∙ sets-eq (imageLine image line) before 0 (omega (arith, fits, size))
+        ∙ ap (λ (k : ℕ). imageLine image line ++ drop k before) (sym reached) in
+        rw (le-ltb _ _ h, ← size, le-ltb _ _ fits) (record { answered = refl; left = left })
 
 -- ---- any image
 

@@ -1,16 +1,16 @@
--- "A listing writer fills a fixed buffer line by line": what is in the buffer, and how far it is filled.
-use Prim.Native.Nat.{ℕ, zero, suc, _+_}
-use mathlib.Core.Bool.{Bool, cond}
-use mathlib.Core.List.{List, [], _∷_}
+-- "A listing writer fills a fixed buffer line by line": the pieces of a line, and what a writer has put.
+use Prim.Native.Nat.{ℕ, zero, suc, _+_, _*_}
+use mathlib.Core.Bool.{cond}
+use mathlib.Core.List.{List, [], _∷_, _++_}
+use mathlib.Core.Path.{_≡_}
 use denote.Ref.{now, at-last}
-use lib.Dec.{leb}
 use lib.ListN.{length}
 use lib.Seq.{sets}
 use Rattle.instruction.specs.Rules.{ruleOf}
 use Rattle.instruction.specs.Word.{opcodeOf, operandOf}
-use Rattle.text.specs.Decimal.{signed}
-use Rattle.names.specs.Names.{hasOperand}
-use Rattle.lister.specs.Text.{headerLine, instructionLine}
+use Rattle.text.specs.Decimal.{decimal, signed}
+use Rattle.names.specs.Names.{hasOperand, nameOf}
+use Rattle.lister.specs.Text.{addressOf, cellsWord, headerLine, instructionLine}
 use Rattle.lister.specs.declared.writer.Writer.{Writer}
 
 -- line 0 is the header, with the number of cells; line i + 1 is that of instruction i, with its word
@@ -18,25 +18,42 @@ abbrev pub lineText : ℕ → ℕ → List ℕ
 lineText zero cells = headerLine cells
 lineText (suc index) w = instructionLine index w
 
--- what follows the name in an instruction's line: a space and the operand, where it has one
+-- a line's first word
+abbrev pub startText : ℕ → List ℕ
+startText zero = cellsWord
+startText (suc index) = addressOf index
+
+-- a space and the operand, where an instruction has one
 abbrev pub operandText : ℕ → List ℕ
 operandText w = cond (hasOperand (ruleOf (opcodeOf w))) (32 ∷ signed (operandOf w)) []
 
--- whether there is room for a whole line at the place reached
-abbrev pub hasRoom : List ℕ → ℕ → List ℕ → Bool
-hasRoom buffer at text = leb (at + length text) (length buffer)
+-- a space and what the line shows: the number of cells, or the name and the operand
+abbrev pub contentText : ℕ → ℕ → List ℕ
+contentText zero cells = 32 ∷ decimal cells
+contentText (suc index) w = 32 ∷ nameOf (opcodeOf w) ++ operandText w
 
--- the buffer with the line, and the next place; both as before where there is no room
-abbrev pub filled : List ℕ → ℕ → List ℕ → List ℕ
-filled buffer at text = cond (hasRoom buffer at text) (sets buffer at text) buffer
+-- the pieces of a line: 0 is its first word, 1 what it shows, and 2 its line feed
+abbrev pub pieceText : ℕ → ℕ → ℕ → List ℕ
+pieceText zero line content = startText line
+pieceText (suc zero) line content = contentText line content
+pieceText (suc (suc piece)) line content = 10 ∷ []
 
-abbrev pub reached : List ℕ → ℕ → List ℕ → ℕ
-reached buffer at text = cond (hasRoom buffer at text) (at + length text) at
+-- the three make the line. The proof is in proofs/Spelled.antt
+abbrev pub PiecesMakeLine : Type 0
+PiecesMakeLine = (line content : ℕ)
+    → pieceText 0 line content ++ (pieceText 1 line content ++ pieceText 2 line content) ≡ lineText line content
 
--- the same of a writer: the same borrow, at the buffer that is left
-abbrev pub lined : Writer → ℕ → ℕ → Writer
-lined w line content =
+-- room for any piece, and for a line's three
+abbrev pub pieceRoom : ℕ
+pieceRoom = 33
+
+abbrev pub lineRoom : ℕ
+lineRoom = 3 * pieceRoom
+
+-- a writer after a piece: the same borrow, at the buffer with the piece at the place reached, and the place after it
+abbrev pub lined : Writer → ℕ → ℕ → ℕ → Writer
+lined w piece line content =
     record {
-      out = at-last (w .out) (filled (now (w .out)) (w .at) (lineText line content));
-      at = reached (now (w .out)) (w .at) (lineText line content);
+      out = at-last (w .out) (sets (now (w .out)) (w .at) (pieceText piece line content));
+      at = w .at + length (pieceText piece line content);
     }

@@ -1,14 +1,24 @@
-// The lines of a text, on a slice and a number. Inner.
+// The pieces of a line, on a slice and a number. Inner.
 ghost use Prim.Native.Nat.{_%_, _+_, _≤_};
 ghost use lib.ListN.{length};
 ghost use mathlib.Core.Path.{_≡_};
 ghost use Rattle.io.specs.Digits.{glyph};
 ghost use Rattle.text.specs.Lines.{Puts};
-ghost use Rattle.lister.specs.Filling.{filled, lineText, operandText, reached};
-ghost use Rattle.lister.specs.Text.{addressOf, headerLine, instructionLine};
+ghost use Rattle.lister.specs.Filling.{contentText, operandText, pieceRoom, pieceText, startText};
+ghost use Rattle.lister.specs.Text.{addressOf};
 
-// More bytes than any line has.
-pub const ROOM: usize = 48;
+// The pieces of a line: its first word, what it shows, and its line feed. Line 0 is the header, line i + 1 that of
+// instruction i.
+pub const START: usize = 0;
+
+pub const CONTENT: usize = 1;
+
+pub const END: usize = 2;
+
+// Room for any piece, and for a line's three.
+const PIECE_ROOM: usize = 33;
+
+pub const ROOM: usize = 3 * PIECE_ROOM;
 
 const LINE_FEED: u8 = b'\n';
 
@@ -30,6 +40,28 @@ fn put_address(out: &mut [u8], at: usize, index: usize) -> usize
     text::put_byte(out, next, digit(index))
 }
 
+// The word `cells`, or an instruction's address.
+fn put_start(out: &mut [u8], at: usize, line: usize) -> usize
+    requires { ⌜ at + 5 ≤ length (now out) ⌝ }
+    ensures { λ r. ⌜ Puts (startText line) (now (out .entry)) at (now (out .exit)) r ⌝ }
+    ensures { λ r. ⌜ r ≤ at + 5 ⌝ }
+{
+    if line == 0 {
+        return text::put_bytes(out, at, b"cells");
+    }
+    put_address(out, at, line - 1)
+}
+
+// A space and the number of cells.
+fn put_cells(out: &mut [u8], at: usize, cells: u32) -> usize
+    requires { ⌜ at + pieceRoom ≤ length (now out) ⌝ }
+    ensures { λ r. ⌜ Puts (contentText 0 cells) (now (out .entry)) at (now (out .exit)) r ⌝ }
+    ensures { λ r. ⌜ r ≤ at + pieceRoom ⌝ }
+{
+    let next = text::put_bytes(out, at, b" ");
+    text::put_decimal(out, next, cells as u64)
+}
+
 // A space and the operand, where an instruction has one.
 fn put_operand(out: &mut [u8], at: usize, w: u32) -> usize
     requires { ⌜ at + 22 ≤ length (now out) ⌝ }
@@ -43,59 +75,31 @@ fn put_operand(out: &mut [u8], at: usize, w: u32) -> usize
     text::put_signed(out, next, instruction::operand(w))
 }
 
-fn put_instruction(out: &mut [u8], index: usize, w: u32) -> usize
-    requires { ⌜ 48 ≤ length (now out) ⌝ }
-    ensures { λ r. ⌜ Puts (instructionLine index w) (now (out .entry)) 0 (now (out .exit)) r ⌝ }
-    ensures { λ r. ⌜ r ≤ 48 ⌝ }
-{
-    let mut at = put_address(out, 0, index);
-    at = text::put_byte(out, at, b' ');
-    at = names::put_name(out, at, instruction::opcode(w) as usize);
-    at = put_operand(out, at, w);
-    text::put_byte(out, at, LINE_FEED)
-}
-
-fn put_header(out: &mut [u8], cells: u32) -> usize
-    requires { ⌜ 48 ≤ length (now out) ⌝ }
-    ensures { λ r. ⌜ Puts (headerLine cells) (now (out .entry)) 0 (now (out .exit)) r ⌝ }
-    ensures { λ r. ⌜ r ≤ 48 ⌝ }
-{
-    let mut at = text::put_bytes(out, 0, b"cells ");
-    at = text::put_decimal(out, at, cells as u64);
-    text::put_byte(out, at, LINE_FEED)
-}
-
-// Line 0 is the header, line i + 1 that of instruction i.
-fn put_line(out: &mut [u8], line: usize, content: u32) -> usize
-    requires { ⌜ 48 ≤ length (now out) ⌝ }
-    ensures { λ r. ⌜ Puts (lineText line content) (now (out .entry)) 0 (now (out .exit)) r ⌝ }
-    ensures { λ r. ⌜ r ≤ 48 ⌝ }
+// A space and what a line shows: the number of cells, or an instruction's name and operand.
+fn put_content(out: &mut [u8], at: usize, line: usize, content: u32) -> usize
+    requires { ⌜ at + pieceRoom ≤ length (now out) ⌝ }
+    ensures { λ r. ⌜ Puts (contentText line content) (now (out .entry)) at (now (out .exit)) r ⌝ }
+    ensures { λ r. ⌜ r ≤ at + pieceRoom ⌝ }
 {
     if line == 0 {
-        return put_header(out, content);
+        return put_cells(out, at, content);
     }
-    put_instruction(out, line - 1, content)
+    let mut next = text::put_byte(out, at, b' ');
+    next = names::put_name(out, next, instruction::opcode(content) as usize);
+    put_operand(out, next, content)
 }
 
-// Puts a text from `at` on, if there is room for all of it, and answers the place reached.
-fn fit(out: &mut [u8], at: usize, line: &[u8]) -> usize
-    requires { ⌜ at ≤ length (now out) ⌝ }
-    ensures { λ r. ⌜ r ≡ reached (now (out .entry)) at (now (line .entry)) ⌝ }
-    ensures { λ r. ⌜ now (out .exit) ≡ filled (now (out .entry)) at (now (line .entry)) ⌝ }
+// Puts a piece of a line from `at` on, and answers the place reached.
+pub fn piece_at(out: &mut [u8], at: usize, piece: usize, line: usize, content: u32) -> usize
+    requires { ⌜ at + pieceRoom ≤ length (now out) ⌝ }
+    ensures { λ r. ⌜ Puts (pieceText piece line content) (now (out .entry)) at (now (out .exit)) r ⌝ }
+    ensures { λ r. ⌜ r ≤ at + pieceRoom ⌝ }
 {
-    if out.len() - at < line.len() {
-        return at;
+    if piece == START {
+        return put_start(out, at, line);
     }
-    text::put_bytes(out, at, line)
-}
-
-// Puts a line from `at` on, if there is room for all of it, and answers the place reached.
-pub fn line_at(out: &mut [u8], at: usize, line: usize, content: u32) -> usize
-    requires { ⌜ at ≤ length (now out) ⌝ }
-    ensures { λ r. ⌜ r ≡ reached (now (out .entry)) at (lineText line content) ⌝ }
-    ensures { λ r. ⌜ now (out .exit) ≡ filled (now (out .entry)) at (lineText line content) ⌝ }
-{
-    let mut text = [0u8; ROOM];
-    let length = put_line(&mut text, line, content);
-    fit(out, at, &text[..length])
+    if piece == CONTENT {
+        return put_content(out, at, line, content);
+    }
+    text::put_byte(out, at, LINE_FEED)
 }

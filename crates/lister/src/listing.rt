@@ -4,6 +4,8 @@ ghost use lib.ListN.{length};
 ghost use mathlib.Core.Path.{_≡_};
 ghost use Rattle.card.specs.Image.{Headed, countOf};
 ghost use Rattle.lister.specs.Listing.{Leaves, Lists, contentOf, lineOf};
+use crate::lines::ROOM;
+use crate::writer::put_one;
 use card::Reading;
 
 // The answer.
@@ -27,7 +29,7 @@ fn content_of(image: &[u8], line: usize) -> u32
     instruction::word_at(image, 9 + 4 * (line - 1))
 }
 
-// Lists a line of an image that is accepted.
+// Lists a line of an image that is accepted: it is made whole first, so that a refusal leaves `out` as it was.
 fn list_accepted(image: &[u8], line: usize, out: &mut [u8]) -> Listing
     requires { ⌜ Headed (now image) ⌝ }
     ensures { λ r. ⌜ Leaves (lineOf (now (image .entry)) line (length (now (out .entry)))) (now (image .entry)) line (now (out .entry)) r (now (out .exit)) ⌝ }
@@ -36,13 +38,15 @@ fn list_accepted(image: &[u8], line: usize, out: &mut [u8]) -> Listing
     if n < line {
         return Listing::Past;
     }
-    let length = crate::writer::put_one(out, line, content_of(image, line));
-    if length == 0 {
+    let mut text = [0u8; ROOM];
+    let length = put_one(&mut text, line, content_of(image, line));
+    if out.len() < length {
         return Listing::Refused {
             number: 43,
             place: 0,
         };
     }
+    text::put_bytes(out, 0, &text[..length]);
     Listing::Written { length }
 }
 

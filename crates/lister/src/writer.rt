@@ -1,10 +1,14 @@
-// The listing writer: a lent buffer, which it fills line by line, and the place that it has reached. Inner. Each function over the
+// The listing writer: a lent buffer, which it fills piece by piece, and the place that it has reached. Inner. Each function over the
 // struct takes it apart and calls one on the slice and the number; `put_one` has plain parameters, and serves every other caller.
-ghost use Prim.Native.Nat.{_≤_};
+ghost use Prim.Native.Nat.{_+_, _≤_};
 ghost use lib.ListN.{length};
 ghost use mathlib.Core.Path.{_≡_};
-ghost use Rattle.lister.specs.Filling.{filled, lineText, lined, reached};
-use crate::lines::line_at;
+ghost use Rattle.text.specs.Lines.{Puts};
+ghost use Rattle.lister.specs.Filling.{lineRoom, lineText, lined, pieceRoom};
+use crate::lines::CONTENT;
+use crate::lines::END;
+use crate::lines::START;
+use crate::lines::piece_at;
 
 pub struct Writer<'a> {
     pub out: &'a mut [u8],
@@ -18,13 +22,13 @@ pub fn new<'a>(out: &'a mut [u8]) -> Writer<'a>
     Writer { out, at: 0 }
 }
 
-// Puts a line, if there is room for all of it.
-pub fn put<'a>(w: Writer<'a>, line: usize, content: u32) -> Writer<'a>
-    requires { ⌜ w .at ≤ length (now (w .out)) ⌝ }
-    ensures { λ r. ⌜ r ≡ lined (w .entry) line content ⌝ }
+// Puts a piece of a line at the place reached.
+pub fn put<'a>(w: Writer<'a>, piece: usize, line: usize, content: u32) -> Writer<'a>
+    requires { ⌜ w .at + pieceRoom ≤ length (now (w .out)) ⌝ }
+    ensures { λ r. ⌜ (r ≡ lined (w .entry) piece line content) × (r .at ≤ w .entry .at + pieceRoom) ⌝ }
 {
     let at = w.at;
-    let next = line_at(&mut *w.out, at, line, content);
+    let next = piece_at(&mut *w.out, at, piece, line, content);
     Writer {
         out: w.out,
         at: next,
@@ -38,10 +42,13 @@ pub fn place<'a>(w: Writer<'a>) -> usize
     w.at
 }
 
-// Puts one line at the start of a buffer, and answers the place reached.
+// Puts the pieces of a line at the start of a buffer, one after the other, and answers the place reached.
 pub fn put_one(out: &mut [u8], line: usize, content: u32) -> usize
-    ensures { λ r. ⌜ (r ≡ reached (now (out .entry)) 0 (lineText line content)) × (now (out .exit) ≡ filled (now (out .entry)) 0 (lineText line content)) ⌝ }
+    requires { ⌜ lineRoom ≤ length (now out) ⌝ }
+    ensures { λ r. ⌜ Puts (lineText line content) (now (out .entry)) 0 (now (out .exit)) r × (r ≤ lineRoom) ⌝ }
 {
-    let w = put(new(out), line, content);
-    place(w)
+    let started = put(new(out), START, line, content);
+    let shown = put(started, CONTENT, line, content);
+    let ended = put(shown, END, line, content);
+    place(ended)
 }
