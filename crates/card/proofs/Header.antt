@@ -10,9 +10,9 @@ use lib.ListN.{length, drop}
 use borrow.Author.Tests.{ltb-false, eqb-true, not-false, le-ltb, eq-eqb}
 use Rattle.card.specs.Code.{firstBad, wordsOf}
 use Rattle.card.specs.Image.{Headed, cellsOf, codeOf, countOf, followingOf, versionOf, lengthWrong, versionWrong, outOfRange, sizesWrong, headerSize, lastOf, placed, readCode, readOf}
+use Rattle.card.specs.Result.{gives, refuses}
 use Rattle.card.specs.declared.scan.Scan.{Scan}
 use Rattle.card.specs.declared.scan.Scan.the-variants.{Fine, Bad}
-use Rattle.card.specs.declared.reader.Reading.the-variants.{Accepted, Refused}
 use Rattle.card.proofs.Search.{found-number}
 
 -- both tests failed
@@ -76,18 +76,18 @@ pub record Accepts (image : List ℕ) (cells : ℕ) : Type 0 where
   pub globals : cellsOf image ≡ cells
   pub code : firstBad (lastOf (countOf image)) 0 (wordsOf (drop headerSize image)) ≡ Fine
 
-never : {X : Type 0} {number place cells : ℕ} → Refused number place ≡ Accepted cells → X
+never : {X : Type 0} {number place cells : ℕ} → refuses number place ≡ gives cells → X
 never e = absurd (let z : _≡_ {A = ℕ} 0 1 = cc in omega arith)
 
-good-code : (g : ℕ) (s : Scan) {cells : ℕ} → placed g s ≡ Accepted cells → (g ≡ cells) × (s ≡ Fine)
+good-code : (g : ℕ) (s : Scan) {cells : ℕ} → placed g s ≡ gives cells → (g ≡ cells) × (s ≡ Fine)
 good-code g Fine e = (cc, refl)
 good-code g (Bad number index) e = never e
 
-pub accepts : (image : List ℕ) (cells : ℕ) → readOf image ≡ Accepted cells → Accepts image cells
+pub accepts : (image : List ℕ) (cells : ℕ) → readOf image ≡ gives cells → Accepts image cells
 unfolding readOf readCode
 accepts image cells e = first (lengthWrong image) refl e
   where
-    third : lengthWrong image ≡ false → versionWrong image ≡ false → (b : Bool) → sizesWrong image ≡ b → cond b (Refused 3 5) (readCode image) ≡ Accepted cells → Accepts image cells
+    third : lengthWrong image ≡ false → versionWrong image ≡ false → (b : Bool) → sizesWrong image ≡ b → cond b (refuses 3 5) (readCode image) ≡ gives cells → Accepts image cells
     third l v true t r = never r
     third l v false t r =
         let g = good-code (cellsOf image) _ r in
@@ -99,16 +99,16 @@ accepts image cells e = first (lengthWrong image) refl e
           code = g .1;
         }
 
-    second : lengthWrong image ≡ false → (b : Bool) → versionWrong image ≡ b → cond b (Refused 2 4) (cond (sizesWrong image) (Refused 3 5) (readCode image)) ≡ Accepted cells → Accepts image cells
+    second : lengthWrong image ≡ false → (b : Bool) → versionWrong image ≡ b → cond b (refuses 2 4) (cond (sizesWrong image) (refuses 3 5) (readCode image)) ≡ gives cells → Accepts image cells
     second l true v r = never r
     second l false v r = third l v (sizesWrong image) refl r
 
-    first : (b : Bool) → lengthWrong image ≡ b → cond b (Refused 1 0) (cond (versionWrong image) (Refused 2 4) (cond (sizesWrong image) (Refused 3 5) (readCode image))) ≡ Accepted cells → Accepts image cells
+    first : (b : Bool) → lengthWrong image ≡ b → cond b (refuses 1 0) (cond (versionWrong image) (refuses 2 4) (cond (sizesWrong image) (refuses 3 5) (readCode image))) ≡ gives cells → Accepts image cells
     first true l r = never r
     first false l r = second l (versionWrong image) refl r
 
 -- its code part
-pub code-part : (image : List ℕ) (cells : ℕ) → readOf image ≡ Accepted cells → codeOf image ≡ drop headerSize image
+pub code-part : (image : List ℕ) (cells : ℕ) → readOf image ≡ gives cells → codeOf image ≡ drop headerSize image
 unfolding codeOf
 code-part image cells e = rw e
 
@@ -120,7 +120,7 @@ pub not-out : (x : ℕ) → InRange x → outOfRange x ≡ false
 not-out x r = neither (ltb x 1) (ltb 4096 x) (le-ltb x 1 (r .some)) (le-ltb 4096 x (r .most))
 
 -- and such an image is accepted
-pub accepted : (image : List ℕ) (cells : ℕ) → Accepts image cells → readOf image ≡ Accepted cells
+pub accepted : (image : List ℕ) (cells : ℕ) → Accepts image cells → readOf image ≡ gives cells
 unfolding readOf readCode
 accepted image cells a =
     let l : lengthWrong image ≡ false =
@@ -129,21 +129,21 @@ accepted image cells a =
     let s : sizesWrong image ≡ false =
     neither (outOfRange (cellsOf image)) _ (not-out _ (a .sized .cells))
     (neither (outOfRange (countOf image)) _ (not-out _ (a .sized .count)) (rw (eq-eqb _ _ (a .sized .exact)))) in
-    rw (l, eq-eqb _ _ (a .version), s, a .code) (ap Accepted (a .globals))
+    rw (l, eq-eqb _ _ (a .version), s, a .code) (ap gives (a .globals))
 
 -- a refusal's number is 1 to 5
-refused-code : (g : ℕ) (last : ℤ) (ws : List ℕ) (s : Scan) {number place : ℕ} → firstBad last 0 ws ≡ s → placed g s ≡ Refused number place → (1 ≤ number) × (number ≤ 5)
+refused-code : (g : ℕ) (last : ℤ) (ws : List ℕ) (s : Scan) {number place : ℕ} → firstBad last 0 ws ≡ s → placed g s ≡ refuses number place → (1 ≤ number) × (number ≤ 5)
 refused-code g last ws Fine f e = absurd (let z : _≡_ {A = ℕ} 0 1 = cc in omega arith)
 refused-code g last ws (Bad k index) {number} f e =
     let same : k ≡ number = cc in
     let found = found-number last ws 0 f in
     omega arith
 
-pub refused-number : (image : List ℕ) (number place : ℕ) → readOf image ≡ Refused number place → (1 ≤ number) × (number ≤ 5)
+pub refused-number : (image : List ℕ) (number place : ℕ) → readOf image ≡ refuses number place → (1 ≤ number) × (number ≤ 5)
 unfolding readOf readCode
 refused-number image number place e = by-test (lengthWrong image) (versionWrong image) (sizesWrong image) e
   where
-    by-test : (a b c : Bool) → cond a (Refused 1 0) (cond b (Refused 2 4) (cond c (Refused 3 5) (readCode image))) ≡ Refused number place → (1 ≤ number) × (number ≤ 5)
+    by-test : (a b c : Bool) → cond a (refuses 1 0) (cond b (refuses 2 4) (cond c (refuses 3 5) (readCode image))) ≡ refuses number place → (1 ≤ number) × (number ≤ 5)
     by-test true b c r = let same : 1 ≡ number = cc in omega arith
     by-test false true c r = let same : 2 ≡ number = cc in omega arith
     by-test false false true r = let same : 3 ≡ number = cc in omega arith

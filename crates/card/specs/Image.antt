@@ -9,6 +9,7 @@ use lib.IntN.{ℤ, pos, _-ℤ_}
 use lib.ListN.{length, drop}
 use Rattle.instruction.specs.Bytes.{byteOf, halfAt, wordAt}
 use Rattle.card.specs.Code.{wordsOf, firstBad}
+use Rattle.card.specs.Result.{Result, gives, refuses}
 use Rattle.card.specs.declared.scan.Scan.{Scan}
 use Rattle.card.specs.declared.scan.Scan.the-variants.{Fine, Bad}
 use Rattle.card.specs.declared.reader.Reading.{Reading}
@@ -63,21 +64,26 @@ abbrev pub lastOf : ℕ → ℤ
 lastOf n = pos n -ℤ pos 1
 
 -- numbers 4 and 5 at "its byte" and "the instruction's first byte", which are one place: the opcode stands first
-abbrev pub placed : ℕ → Scan → Reading
-placed cells Fine = Accepted cells
-placed cells (Bad number index) = Refused number (headerSize + 4 * index)
+abbrev pub placed : ℕ → Scan → Result
+placed cells Fine = gives cells
+placed cells (Bad number index) = refuses number (headerSize + 4 * index)
 
 -- the reader's answer on the instructions
-unfoldable pub readCode : List ℕ → Reading
+unfoldable pub readCode : List ℕ → Result
 readCode image = placed (cellsOf image) (firstBad (lastOf (countOf image)) 0 (wordsOf (drop headerSize image)))
 
--- the reader: "in order: 1, 2, 3, then the first bad instruction (4 before 5)"
-unfoldable pub readOf : List ℕ → Reading
+-- the reader, which gives g: "in order: 1, 2, 3, then the first bad instruction (4 before 5)"
+unfoldable pub readOf : List ℕ → Result
 readOf image =
-    cond (lengthWrong image) (Refused 1 0)
-    (cond (versionWrong image) (Refused 2 4)
-    (cond (sizesWrong image) (Refused 3 5)
+    cond (lengthWrong image) (refuses 1 0)
+    (cond (versionWrong image) (refuses 2 4)
+    (cond (sizesWrong image) (refuses 3 5)
     (readCode image)))
+
+-- the number, place and g of each case of the reader's enum
+abbrev pub told : Reading → Result
+told (Accepted cells) = gives cells
+told (Refused number place) = refuses number place
 
 -- an image whose header is right, as far as the instructions' reading needs it
 pub record Headed (image : List ℕ) : Type 0 where
@@ -85,33 +91,18 @@ pub record Headed (image : List ℕ) : Type 0 where
   pub some : 1 ≤ countOf image
   pub most : countOf image ≤ 4096
 
--- an answer's number, 0 where the card is accepted
-abbrev pub numberOf : Reading → ℕ
-numberOf (Accepted cells) = 0
-numberOf (Refused number place) = number
-
--- its place, 0 where the card is accepted
-abbrev pub placeOf : Reading → ℕ
-placeOf (Accepted cells) = 0
-placeOf (Refused number place) = place
-
--- and its global cells, "g 0 .. on a refusal"
-abbrev pub globalsOf : Reading → ℕ
-globalsOf (Accepted cells) = cells
-globalsOf (Refused number place) = 0
-
 -- "the code part of the caller's own image .. or .. an empty part on a refusal"
-abbrev pub partOf : Reading → List ℕ → List ℕ
-partOf (Accepted cells) image = drop headerSize image
-partOf (Refused number place) image = []
+abbrev pub partOf : Result → List ℕ → List ℕ
+partOf (gives cells) image = drop headerSize image
+partOf (refuses number place) image = []
 
 unfoldable pub codeOf : List ℕ → List ℕ
 codeOf image = partOf (readOf image) image
 
 -- where the part begins in the image
-abbrev pub startOf : Reading → ℕ
-startOf (Accepted cells) = headerSize
-startOf (Refused number place) = 0
+abbrev pub startOf : Result → ℕ
+startOf (gives cells) = headerSize
+startOf (refuses number place) = 0
 
 -- "the caller's own image, uncopied": the part's bytes, and that they lie in the image's own memory
 pub record CodePart (image part : RefT (List ℕ)) : Type 0 where

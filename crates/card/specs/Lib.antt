@@ -1,2 +1,3 @@
+pub mod Result
 pub mod Code
 pub mod Image

@@ -2,7 +2,7 @@
 ghost use mathlib.Core.Path.{_≡_};
 ghost use Prim.Native.Nat.{_+_, _*_, _≤_, _<_};
 ghost use lib.ListN.{length};
-ghost use Rattle.card.specs.Image.{CodePart, Headed, lastOf, lengthWrong, outOfRange, readCode, readOf, sizesWrong};
+ghost use Rattle.card.specs.Image.{CodePart, Headed, lastOf, lengthWrong, outOfRange, readCode, readOf, sizesWrong, told};
 use crate::scan::Scan;
 
 // The reader's answer.
@@ -56,7 +56,7 @@ pub fn last_of(n: usize) -> i32
 // Reads the instructions of an image whose header is right.
 fn read_code(image: &[u8]) -> Reading
     requires { ⌜ Headed (now image) ⌝ }
-    ensures { λ r. ⌜ r ≡ readCode (now (image .entry)) ⌝ }
+    ensures { λ r. ⌜ told r ≡ readCode (now (image .entry)) ⌝ }
 {
     let n = instruction::half_at(image, 7) as usize;
     match crate::scan::scan_code(&image[9..], n, last_of(n)) {
@@ -71,7 +71,7 @@ fn read_code(image: &[u8]) -> Reading
 }
 
 pub fn read(image: &[u8]) -> Reading
-    ensures { λ r. ⌜ r ≡ readOf (now (image .entry)) ⌝ }
+    ensures { λ r. ⌜ told r ≡ readOf (now (image .entry)) ⌝ }
 {
     if wrong_length(image) {
         return Reading::Refused {

@@ -30,7 +30,8 @@ fn run_box(
             if !wellformed::well_formed(r, tables, values, size) {
                 return refused(7, 0, r);
             }
-            let code = card::code_part(image);
+            // The card was read, so its code part is what follows the header.
+            let code = &image[9..];
             let n = code.len() / 4;
             let p = engine::run(code, store, tables, values, size, n, r, m);
             ended(p.registers, p.count)

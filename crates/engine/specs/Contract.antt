@@ -6,7 +6,7 @@ use lib.IntN.{ℤ}
 use lib.ListN.{length}
 use Rattle.card.specs.Code.{instructionAt, wordsOf}
 use Rattle.card.specs.Image.{codeOf, readOf}
-use Rattle.card.specs.declared.reader.Reading.the-variants as reading
+use Rattle.card.specs.Result.{gives}
 use Rattle.engine.specs.declared.progress.Progress.{Progress}
 use Rattle.local.specs.Contract.{Others}
 use Rattle.machine.specs.Book.{Entry}
@@ -22,7 +22,7 @@ use Rattle.cells.specs.Contract.{at}
 pub record Carded (code : List ℕ) (n : ℕ) : Type 0 where
   pub image : List ℕ
   pub cells : ℕ
-  pub read : readOf image ≡ reading.Accepted cells
+  pub read : readOf image ≡ gives cells
   pub part : code ≡ codeOf image
   pub long : length code ≡ 4 * n
 

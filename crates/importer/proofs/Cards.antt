@@ -13,7 +13,9 @@ use lib.ListN.{drop, length, take}
 use lib.Seq.{length-take-le, sets, sets-eq, take-append-seam}
 use Rattle.card.specs.Image.{imageSize, lastOf, outOfRange}
 use Rattle.writer.specs.Writing.{Wrote, afterList, bufferOf, writeOf}
+use Rattle.card.specs.Result.{Result, gives, refuses}
 use Rattle.card.specs.declared.scan.Scan.the-variants.{Bad}
+use Rattle.writer.specs.Writing as writes
 use Rattle.writer.specs.declared.Writing.{Writing}
 use Rattle.writer.specs.declared.Writing.the-variants as writing
 use Rattle.card.proofs.Header.{in-range, or-false}
@@ -23,12 +25,12 @@ use Rattle.digits.proofs.Walks.{capped-large, capped-small}
 use Rattle.words.specs.Words.{split, upTo}
 use Rattle.words.proofs.Clash.{impossible}
 use Rattle.words.proofs.Cuts.{parts, whole}
-use Rattle.importer.specs.Coding.{Stores, WroteCard, codedCells, codedHeader, codedItems, codedLines, codedWriting, withLine}
+use Rattle.importer.specs.Coding.{Stores, WroteCard, codedCells, codedHeader, codedItems, codedLines, renumbered, withLine}
 use Rattle.importer.specs.Forms.{Item, Lines, bad, card, good, headed, headerRead, linesRead, refused, textRead, withCells}
-use Rattle.importer.specs.Importing.{Imports, Leaves, afterRules, answerOf, firstAgainst, imageSaid, imported, said}
+use Rattle.importer.specs.Importing.{Imports, Leaves, afterRules, answerOf, firstAgainst, imageSaid, imported, said, told}
 use Rattle.importer.specs.declared.header.Header.the-variants as header
 use Rattle.importer.specs.declared.importing.Importing.{Importing}
-use Rattle.importer.specs.declared.importing.Importing.the-variants.{Imported, Refused}
+use Rattle.importer.specs.declared.importing.Importing.the-variants.{Refused}
 use Rattle.importer.specs.declared.lines.Lines.the-variants as lines
 use Rattle.importer.proofs.Following.{header-at}
 use Rattle.importer.proofs.Judged.{AllNamed, allowed-coded, first-coded, length-coded, lines-named, scanned}
@@ -36,22 +38,22 @@ use Rattle.importer.proofs.Spelling.{cut-at}
 
 -- ---- the writer's answer
 
-pub written : (answer : Writing) (size : ℕ) → answer ≡ writing.Written size → Imported size ≡ codedWriting answer
+pub written : (answer : Writing) (size : ℕ) → answer ≡ writing.Written size → gives size ≡ renumbered (writes.told answer)
 written answer size e = rw e
 
-pub full : (answer : Writing) (number place : ℕ) → answer ≡ writing.Refused number place → number ≡ 8 → Refused 43 0 ≡ codedWriting answer
+pub full : (answer : Writing) (number place : ℕ) → answer ≡ writing.Refused number place → number ≡ 8 → refuses 43 0 ≡ renumbered (writes.told answer)
 full answer number place e is = rw (e, eq-eqb number 8 is)
 
-pub same-number : (answer : Writing) (number place : ℕ) → answer ≡ writing.Refused number place → number ≢ 8 → Refused number place ≡ codedWriting answer
+pub same-number : (answer : Writing) (number place : ℕ) → answer ≡ writing.Refused number place → number ≢ 8 → refuses number place ≡ renumbered (writes.told answer)
 same-number answer number place e other = rw (e, ne-eqb number 8 other)
 
 pub too-many : (cells count : ℕ) (words before : List ℕ) → 4096 < count → WroteCard cells count words before (Refused 3 5) before
 too-many cells count words before h = let over = lt-ltb 4096 count h in record { answered = rw over; left = rw over }
 
-pub wrote-card : (cells count : ℕ) (words before : List ℕ) (w : Writing) (answer : Importing) (after : List ℕ) → count ≤ 4096 → Wrote cells (take count words) before w after → answer ≡ codedWriting w → WroteCard cells count words before answer after
+pub wrote-card : (cells count : ℕ) (words before : List ℕ) (w : Writing) (answer : Importing) (after : List ℕ) → count ≤ 4096 → Wrote cells (take count words) before w after → told answer ≡ renumbered (writes.told w) → WroteCard cells count words before answer after
 wrote-card cells count words before w answer after h wrote e =
     let within = le-ltb 4096 count h in
-    record { answered = rw within (e ∙ ap codedWriting (wrote .answered)); left = rw within (wrote .left) }
+    record { answered = rw within (e ∙ ap renumbered (wrote .answered)); left = rw within (wrote .left) }
 
 -- ---- a capped number of cells is as much out of range
 
@@ -66,32 +68,32 @@ capped-in g e = capped-small g (omega (arith, in-range g e .most))
 
 -- ---- the card's answer is the text's
 
-abbrev roomy : ℕ → ℕ → Writing
-roomy room n = cond (ltb room (imageSize n)) (writing.Refused 8 0) (writing.Written (imageSize n))
+abbrev roomy : ℕ → ℕ → Result
+roomy room n = cond (ltb room (imageSize n)) (refuses 8 0) (gives (imageSize n))
 
 -- the answers, and the image, once the cells and the count are in range
 module _ (g : ℕ) (items : List Item) (buffer : List ℕ) where
   n : ℕ
   n = length items
 
-  record Same (w : Writing) (answer : Importing) : Type 0 where
-    pub answers : codedWriting w ≡ answer
+  record Same (w : Result) (answer : Result) : Type 0 where
+    pub answers : renumbered w ≡ answer
     pub leaves : bufferOf w (capped g) (codedItems items) buffer ≡ imported answer (card g items) buffer
 
-  by-room : outOfRange g ≡ false → firstAgainst (lastOf n) 0 items ≡ none → Same (roomy (length buffer) n) (cond (ltb (length buffer) (imageSize n)) (Refused 43 0) (Imported (imageSize n)))
+  by-room : outOfRange g ≡ false → firstAgainst (lastOf n) 0 items ≡ none → Same (roomy (length buffer) n) (cond (ltb (length buffer) (imageSize n)) (refuses 43 0) (gives (imageSize n)))
   unfolding imageSaid n
   by-room range rules =
       cases (ltb (length buffer) (imageSize n)) (λ t. rw t (record { answers = refl; leaves = refl }))
       (λ t. rw t (record { answers = refl; leaves = rw (capped-in g range, allowed-coded (lastOf (length items)) items 0 rules) }))
 
   by-rules : outOfRange g ≡ false → (o : Option ℕ) → firstAgainst (lastOf n) 0 items ≡ o →
-      Same (afterList (scanned o) (roomy (length buffer) n)) (afterRules o (cond (ltb (length buffer) (imageSize n)) (Refused 43 0) (Imported (imageSize n))))
+      Same (afterList (scanned o) (roomy (length buffer) n)) (afterRules o (cond (ltb (length buffer) (imageSize n)) (refuses 43 0) (gives (imageSize n))))
   by-rules range none e = by-room range e
   by-rules range (some index) e = record { answers = refl; leaves = refl }
 
   by-range : (t : Bool) → (outOfRange g || outOfRange n) ≡ t →
-      Same (cond t (writing.Refused 3 5) (afterList (scanned (firstAgainst (lastOf n) 0 items)) (roomy (length buffer) n)))
-      (cond t (Refused 3 5) (afterRules (firstAgainst (lastOf n) 0 items) (cond (ltb (length buffer) (imageSize n)) (Refused 43 0) (Imported (imageSize n)))))
+      Same (cond t (refuses 3 5) (afterList (scanned (firstAgainst (lastOf n) 0 items)) (roomy (length buffer) n)))
+      (cond t (refuses 3 5) (afterRules (firstAgainst (lastOf n) 0 items) (cond (ltb (length buffer) (imageSize n)) (refuses 43 0) (gives (imageSize n)))))
   by-range true t = record { answers = refl; leaves = refl }
   by-range false t = by-rules (or-false (outOfRange g) (outOfRange n) t .0) (firstAgainst (lastOf n) 0 items) refl
 
@@ -109,7 +111,7 @@ too-long : (n : ℕ) → 4096 < n → (t : Bool) → (t || outOfRange n) ≡ tru
 too-long n h true = refl
 too-long n h false = rw (le-ltb n 1 (omega (arith, h)), lt-ltb 4096 n h)
 
-over-said : (g : ℕ) (items : List Item) (room : ℕ) → 4096 < length items → answerOf (card g items) room ≡ Refused 3 5
+over-said : (g : ℕ) (items : List Item) (room : ℕ) → 4096 < length items → answerOf (card g items) room ≡ refuses 3 5
 unfolding answerOf
 over-said g items room over = rw (too-long (length items) over (outOfRange g))
 
@@ -120,7 +122,7 @@ card-said g count items first words before after answer room named many stores w
     (λ over.
     let long : ltb 4096 count ≡ true = rw many (lt-ltb 4096 (length items) over) in
     let out = sym (over-said g items (length before) over) in
-    record { answered = rw long at (wrote .answered) ∙ out; left = rw long at (wrote .left) ∙ ap (λ (a : Importing). imported a (card g items) before) out })
+    record { answered = rw long at (wrote .answered) ∙ out; left = rw long at (wrote .left) ∙ ap (λ (a : Result). imported a (card g items) before) out })
     (λ within.
     let short : ltb 4096 count ≡ false = rw many (le-ltb 4096 (length items) within) in
     let taken : take count words ≡ codedItems items = rw many (words-taken items first words (omega (arith, room, within)) stores) in

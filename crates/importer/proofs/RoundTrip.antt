@@ -12,10 +12,9 @@ use lib.ListN.{drop, length, length-drop, take}
 use Rattle.card.specs.Code.{firstBad, wordsOf as codeWords}
 use Rattle.card.specs.Image.{cellsOf, codeOf, countOf, imageSize, lastOf, outOfRange}
 use Rattle.writer.specs.RoundTrip.{Each}
+use Rattle.card.specs.Result.{Result, gives, refuses}
 use Rattle.writer.specs.Writing.{imageOf, writeOf}
-use Rattle.card.specs.declared.reader.Reading.the-variants.{Accepted}
 use Rattle.card.specs.declared.scan.Scan.the-variants.{Fine}
-use Rattle.writer.specs.declared.Writing.the-variants as writing
 use Rattle.card.proofs.Header.{InRange, accepts, code-part, in-range, neither, not-out, or-false}
 use Rattle.writer.proofs.RoundTrip.{read-is-written, written-is-read}
 use Rattle.writer.proofs.Success.{succeeds}
@@ -25,8 +24,6 @@ use Rattle.importer.specs.Coding.{codedItems}
 use Rattle.importer.specs.Forms.{Item, Text, card, refused}
 use Rattle.importer.specs.Importing.{afterRules, answerOf, firstAgainst, imageSaid, said, wordsOf}
 use Rattle.importer.specs.RoundTrip.{ImportedIsListed, ListedIsImported}
-use Rattle.importer.specs.declared.importing.Importing.{Importing}
-use Rattle.importer.specs.declared.importing.Importing.the-variants.{Imported, Refused}
 use Rattle.importer.proofs.Back.{allowed, said-named, text-back}
 use Rattle.importer.proofs.Forth.{itemsOf, length-items, none-against, text-says, words-again}
 use Rattle.importer.proofs.Judged.{AllNamed, allowed-coded, first-coded, length-coded, scanned, word}
@@ -44,10 +41,10 @@ record Accepts (said : Text) (room size : ℕ) : Type 0 where
   pub fits : imageSize (length items) ≤ room
   pub exact : size ≡ imageSize (length items)
 
-never : {X : Type 0} {number place size : ℕ} → Refused number place ≡ Imported size → X
+never : {X : Type 0} {number place size : ℕ} → refuses number place ≡ gives size → X
 never e = impossible cc
 
-accepted : (said : Text) (room size : ℕ) → answerOf said room ≡ Imported size → Accepts said room size
+accepted : (said : Text) (room size : ℕ) → answerOf said room ≡ gives size → Accepts said room size
 unfolding answerOf
 accepted (refused number place) room size e = never e
 accepted (card g items) room size e = by-range (outOfRange g || outOfRange (length items)) refl e
@@ -55,10 +52,10 @@ accepted (card g items) room size e = by-range (outOfRange g || outOfRange (leng
     n : ℕ
     n = length items
 
-    roomy : Bool → Importing
-    roomy t = cond t (Refused 43 0) (Imported (imageSize n))
+    roomy : Bool → Result
+    roomy t = cond t (refuses 43 0) (gives (imageSize n))
 
-    by-room : (outOfRange g || outOfRange n) ≡ false → firstAgainst (lastOf n) 0 items ≡ none → (t : Bool) → ltb room (imageSize n) ≡ t → roomy t ≡ Imported size → Accepts (card g items) room size
+    by-room : (outOfRange g || outOfRange n) ≡ false → firstAgainst (lastOf n) 0 items ≡ none → (t : Bool) → ltb room (imageSize n) ≡ t → roomy t ≡ gives size → Accepts (card g items) room size
     by-room range rules true t q = never q
     by-room range rules false t q =
         let both = or-false (outOfRange g) (outOfRange n) range in
@@ -73,16 +70,16 @@ accepted (card g items) room size e = by-range (outOfRange g || outOfRange (leng
           exact = cc;
         }
 
-    by-rules : (outOfRange g || outOfRange n) ≡ false → (o : Option ℕ) → firstAgainst (lastOf n) 0 items ≡ o → afterRules o (roomy (ltb room (imageSize n))) ≡ Imported size → Accepts (card g items) room size
+    by-rules : (outOfRange g || outOfRange n) ≡ false → (o : Option ℕ) → firstAgainst (lastOf n) 0 items ≡ o → afterRules o (roomy (ltb room (imageSize n))) ≡ gives size → Accepts (card g items) room size
     by-rules range none o q = by-room range o (ltb room (imageSize n)) refl q
     by-rules range (some index) o q = never q
 
-    by-range : (t : Bool) → (outOfRange g || outOfRange n) ≡ t → cond t (Refused 3 5) (afterRules (firstAgainst (lastOf n) 0 items) (roomy (ltb room (imageSize n)))) ≡ Imported size → Accepts (card g items) room size
+    by-range : (t : Bool) → (outOfRange g || outOfRange n) ≡ t → cond t (refuses 3 5) (afterRules (firstAgainst (lastOf n) 0 items) (roomy (ltb room (imageSize n)))) ≡ gives size → Accepts (card g items) room size
     by-range true t q = never q
     by-range false t q = by-rules t (firstAgainst (lastOf n) 0 items) refl q
 
 answers : (g : ℕ) (items : List Item) (room : ℕ) → InRange g → InRange (length items) → firstAgainst (lastOf (length items)) 0 items ≡ none → imageSize (length items) ≤ room →
-    answerOf (card g items) room ≡ Imported (imageSize (length items))
+    answerOf (card g items) room ≡ gives (imageSize (length items))
 unfolding answerOf
 answers g items room cells many rules fits = rw (neither (outOfRange g) (outOfRange (length items)) (not-out g cells) (not-out (length items) many), rules, le-ltb room (imageSize (length items)) fits)
 
@@ -100,9 +97,9 @@ listed-is-imported cells image buffer h room e =
     let says : said (listingOf image) ≡ card cells (itemsOf ws) = rw (a .globals) (text-says (lastOf (length ws)) cells ws (omega (arith, a .globals, a .sized .cells .most)) (omega (arith, n, most)) fine) in
     let items : length (itemsOf ws) ≡ length ws = length-items ws in
     let size : imageSize (length (itemsOf ws)) ≡ length image = omega (arith, items, n, a .long .follows, a .sized .exact) in
-    let answer : answerOf (card cells (itemsOf ws)) (length buffer) ≡ Imported (length image) =
+    let answer : answerOf (card cells (itemsOf ws)) (length buffer) ≡ gives (length image) =
     answers cells (itemsOf ws) (length buffer) (rw (← (a .globals)) (a .sized .cells)) (rw (items, n) (a .sized .count)) (rw items (none-against (lastOf (length ws)) ws 0 fine)) (rw size room)
-    ∙ ap Imported size in
+    ∙ ap gives size in
     let wrote = read-is-written cells image buffer h room e in
     let left : imageOf cells ws ++ drop (length image) buffer ≡ image ++ drop (length image) buffer = rw (wrote .0) at (wrote .1) in
     (ap (λ (t : Text). answerOf t (length buffer)) says ∙ answer, rw (says, answer, words-again ws) left)
@@ -126,7 +123,7 @@ imported-is-listed size text buffer e =
     let own : codedItems items ≡ wordsOf items = allowed-coded last items 0 (a .rules) in
     let n : length (wordsOf items) ≡ length items = ap length (sym own) ∙ length-coded items in
     let fine : firstBad last 0 (wordsOf items) ≡ Fine = ap (firstBad last 0) (sym own) ∙ first-coded last items 0 named ∙ ap scanned (a .rules) in
-    let room : writeOf g (wordsOf items) (length buffer) ≡ writing.Written size =
+    let room : writeOf g (wordsOf items) (length buffer) ≡ gives size =
     succeeds g (wordsOf items) (length buffer) size
     (record { globals = a .cells; count = rw n (a .many); good = rw n fine; fits = rw n (a .fits); exact = rw n (a .exact) }) in
     let read = written-is-read g size (wordsOf items) buffer (words-small last items 0 named (a .rules)) room in
@@ -134,4 +131,4 @@ imported-is-listed size text buffer e =
     let cells : cellsOf image ≡ g = accepts image g (read .0) .globals in
     let text-is : text ≡ textOf g (wordsOf items) = text-back last text g items (omega (arith, a .cells .most)) named (a .rules) (a .is) in
     let listing : listingOf image ≡ text = rw (cells, read .1) (sym text-is) in
-    rw (a .is) (read .0 ∙ ap Accepted (sym cells), listing)
+    rw (a .is) (read .0 ∙ ap gives (sym cells), listing)

@@ -9,19 +9,17 @@ use lib.ListN.{length, take}
 use lib.IntN.{ℤ}
 use lib.Seq.{sets}
 use Rattle.instruction.specs.Word.{bitsOf}
+use Rattle.card.specs.Result.{Result, gives, refuses}
 use Rattle.writer.specs.Writing.{bufferOf, writeOf}
-use Rattle.writer.specs.declared.Writing.{Writing}
-use Rattle.writer.specs.declared.Writing.the-variants as writing
 use Rattle.digits.specs.Reading.{capped, valueOf}
 use Rattle.digits.specs.declared.Decimal.{Decimal}
 use Rattle.digits.specs.declared.Decimal.the-variants as decimal
 use Rattle.words.specs.Words.{split}
 use Rattle.importer.specs.Forms.{Item, Line, Lines, bad, good, headerRead, isAddress, lineRead, right, wrong}
-use Rattle.importer.specs.Importing.{inBits, itemWord}
+use Rattle.importer.specs.Importing.{inBits, itemWord, told}
 use Rattle.importer.specs.declared.header.Header.{Header}
 use Rattle.importer.specs.declared.header.Header.the-variants as header
 use Rattle.importer.specs.declared.importing.Importing.{Importing}
-use Rattle.importer.specs.declared.importing.Importing.the-variants as importing
 use Rattle.importer.specs.declared.items.Entry.{Entry}
 use Rattle.importer.specs.declared.items.Entry.the-variants as entry
 use Rattle.importer.specs.declared.lines.Address.{Address}
@@ -112,14 +110,14 @@ codedHeader (l ∷ []) = header.Wrong
 codedHeader (l ∷ m ∷ more) = withLine (codedCells (headerRead (split 32 l))) (suc (length l))
 
 -- the writer's answer with the importer's number for no room
-abbrev pub codedWriting : Writing → Importing
-codedWriting (writing.Written size) = importing.Imported size
-codedWriting (writing.Refused number place) = cond (eqb number 8) (importing.Refused 43 0) (importing.Refused number place)
+abbrev pub renumbered : Result → Result
+renumbered (gives size) = gives size
+renumbered (refuses number place) = cond (eqb number 8) (refuses 43 0) (refuses number place)
 
 -- a card of `count` instructions, whose first 4,096 stand in `words`
-abbrev pub cardWriting : ℕ → ℕ → List ℕ → ℕ → Writing
-cardWriting cells count words room = cond (ltb 4096 count) (writing.Refused 3 5) (writeOf cells (take count words) room)
+abbrev pub cardWriting : ℕ → ℕ → List ℕ → ℕ → Result
+cardWriting cells count words room = cond (ltb 4096 count) (refuses 3 5) (writeOf cells (take count words) room)
 
 pub record WroteCard (cells count : ℕ) (words before : List ℕ) (answer : Importing) (after : List ℕ) : Type 0 where
-  pub answered : answer ≡ codedWriting (cardWriting cells count words (length before))
+  pub answered : told answer ≡ renumbered (cardWriting cells count words (length before))
   pub left : after ≡ bufferOf (cardWriting cells count words (length before)) cells (take count words) before

@@ -10,6 +10,7 @@ use lib.ListN.{drop, length}
 use Rattle.instruction.specs.Rules.{allows, isBetween, ruleOf}
 use Rattle.instruction.specs.Word.{wordOf}
 use Rattle.card.specs.Image.{imageSize, lastOf, outOfRange}
+use Rattle.card.specs.Result.{Result, gives, refuses}
 use Rattle.writer.specs.Writing.{imageOf, wordsBytes}
 use Rattle.digits.specs.Reading.{allDigits, isDecimal, valueFrom}
 use Rattle.text.specs.Bytes.{bytes, same}
@@ -44,18 +45,19 @@ unfoldable pub firstAgainst : ℤ → ℕ → List Item → Option ℕ
 firstAgainst last index [] = none
 firstAgainst last index (item ∷ items) = cond (isAllowed last item) (firstAgainst last (suc index) items) (some index)
 
-abbrev pub afterRules : Option ℕ → Importing → Importing
-afterRules (some index) rest = Refused 5 index
+abbrev pub afterRules : Option ℕ → Result → Result
+afterRules (some index) rest = refuses 5 index
 afterRules none rest = rest
 
--- the answer on what a text says, for a buffer with so much room. No text gives 4: a name that isn't known is a line of another form
-unfoldable pub answerOf : Text → ℕ → Importing
-answerOf (refused number place) room = Refused number place
+-- the answer on what a text says, which gives the image's size, for a buffer with so much room. No text gives 4: a name that isn't known is a line
+-- of another form
+unfoldable pub answerOf : Text → ℕ → Result
+answerOf (refused number place) room = refuses number place
 answerOf (card cells items) room =
-    cond (outOfRange cells || outOfRange (length items)) (Refused 3 5)
+    cond (outOfRange cells || outOfRange (length items)) (refuses 3 5)
     (afterRules (firstAgainst (lastOf (length items)) 0 items)
-    (cond (ltb room (imageSize (length items))) (Refused 43 0)
-    (Imported (imageSize (length items)))))
+    (cond (ltb room (imageSize (length items))) (refuses 43 0)
+    (gives (imageSize (length items)))))
 
 -- the image that a text gives
 unfoldable pub imageSaid : Text → List ℕ
@@ -63,28 +65,18 @@ imageSaid (card cells items) = imageOf cells (wordsOf items)
 imageSaid (refused number place) = []
 
 -- the buffer afterwards: the image and the old bytes past it, or, after a refusal, what it was
-abbrev pub imported : Importing → Text → List ℕ → List ℕ
-imported (Imported size) said buffer = imageSaid said ++ drop size buffer
-imported (Refused number place) said buffer = buffer
+abbrev pub imported : Result → Text → List ℕ → List ℕ
+imported (gives size) said buffer = imageSaid said ++ drop size buffer
+imported (refuses number place) said buffer = buffer
 
--- an answer's number, 0 where nothing is refused
-abbrev pub numberOf : Importing → ℕ
-numberOf (Imported size) = 0
-numberOf (Refused number place) = number
-
--- its place, 0 where nothing is refused
-abbrev pub placeOf : Importing → ℕ
-placeOf (Imported size) = 0
-placeOf (Refused number place) = place
-
--- and the image's size, 0 after a refusal
-abbrev pub sizeOf : Importing → ℕ
-sizeOf (Imported size) = size
-sizeOf (Refused number place) = 0
+-- the number, place and size of each case of the importer's enum
+abbrev pub told : Importing → Result
+told (Imported size) = gives size
+told (Refused number place) = refuses number place
 
 -- an answer, and the buffer that it leaves
 pub record Leaves (said : Text) (before : List ℕ) (answer : Importing) (after : List ℕ) : Type 0 where
-  pub answered : answer ≡ answerOf said (length before)
+  pub answered : told answer ≡ answerOf said (length before)
   pub left : after ≡ imported (answerOf said (length before)) said before
 
 -- the promise of the call, for every text and buffer
@@ -99,6 +91,6 @@ p2-image : imageSaid p2-said ≡ 0 ∷ 0 ∷ 0 ∷ 13 ∷ 1 ∷ 0 ∷ 1 ∷ 0 �
 unfolding allDigits bytes headerRead imageSaid isDecimal itemRead lineRead linesRead namedFrom names operandRead p2-said same split textRead valueFrom wordsBytes wordsOf
 p2-image = refl
 
-p2-imported : (answerOf p2-said 17 ≡ Imported 17) × (answerOf p2-said 16 ≡ Refused 43 0)
+p2-imported : (answerOf p2-said 17 ≡ gives 17) × (answerOf p2-said 16 ≡ refuses 43 0)
 unfolding allDigits answerOf bytes firstAgainst headerRead isDecimal itemRead lineRead linesRead namedFrom names operandRead p2-said same split textRead valueFrom
 p2-imported = (refl, refl)

@@ -3,8 +3,10 @@ ghost use Prim.Native.Nat.{_≤_};
 ghost use lib.ListN.{length};
 ghost use mathlib.Core.Path.{_≡_};
 ghost use Rattle.words.specs.Words.{split};
-ghost use Rattle.importer.specs.Coding.{WroteCard, codedHeader, codedWriting};
-ghost use Rattle.importer.specs.Importing.{Imports};
+ghost use Rattle.writer.specs.Writing as writing;
+ghost use Rattle.importer.specs.Coding.{WroteCard, codedHeader};
+ghost use Rattle.importer.specs.Coding as coding;
+ghost use Rattle.importer.specs.Importing.{Imports, told};
 ghost use Rattle.importer.specs.declared.header.Header.the-variants as header;
 use crate::header::Header;
 use crate::header::read_header;
@@ -24,7 +26,7 @@ pub enum Importing {
 
 // The writer's answer as the importer's: the same, but for the number of no room.
 fn renumbered(answer: Writing) -> Importing
-    ensures { λ r. ⌜ r ≡ codedWriting answer ⌝ }
+    ensures { λ r. ⌜ told r ≡ coding.renumbered (writing.told answer) ⌝ }
 {
     match answer {
         Writing::Written { size } => Importing::Imported { size },

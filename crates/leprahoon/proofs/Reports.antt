@@ -7,13 +7,13 @@ use lib.IntN.{ℤ}
 use lib.ListN.{length}
 use Rattle.outcome.specs.Outcome.{Gives}
 use Rattle.outcome.specs.declared.Outcome.{Outcome}
-use Rattle.machine.specs.Calls.{Called}
+use Rattle.machine.specs.Calls.{Called, told}
 use Rattle.lists.specs.Lists.{answerList, listOf, registersOf}
 use Rattle.leprahoon.specs.Lists.{Reports}
 
 -- what a call gives, put into lists
 pub reported : {called : Called} {o : Outcome} {store : List ℤ} {tables : List ℕ} {values : List ℤ} {registers report : List ℕ} →
-    Gives called o store tables values → registers ≡ listOf (o .registers) → report ≡ answerList (o .answer) (o .count) →
+    Gives called o store tables values → registers ≡ listOf (o .registers) → report ≡ answerList (told (o .answer)) (o .count) →
     Reports called store tables values registers report
 reported g e f =
     record {

@@ -1,6 +1,6 @@
 // Set-up, step and run on memory that a C program lends.
 ghost use mathlib.Core.Path.{_≡_};
-ghost use Rattle.machine.specs.Calls.{boxed, runCall, setUp, stepCall};
+ghost use Rattle.machine.specs.Calls.{boxed, runCall, setUp, stepCall, told};
 ghost use Rattle.machine.specs.Registers.{zeros};
 ghost use Rattle.machine.specs.Size.{full};
 ghost use Rattle.lists.specs.Lists.{answerList, listOf, registersOf};
@@ -12,7 +12,7 @@ use lists::take_registers;
 
 fn put_outcome(o: Outcome, registers: &mut [usize; 11], report: &mut [usize; 4])
     ensures { λ _. ⌜ now (registers .exit) ≡ listOf (o .registers) ⌝ }
-    ensures { λ _. ⌜ now (report .exit) ≡ answerList (o .answer) (o .count) ⌝ }
+    ensures { λ _. ⌜ now (report .exit) ≡ answerList (told (o .answer)) (o .count) ⌝ }
 {
     let answer = o.answer;
     let r = o.registers;

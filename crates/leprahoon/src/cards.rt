@@ -1,13 +1,17 @@
 // The reader, the writer and the runner's line on buffers that a C program lends.
 ghost use mathlib.Core.Path.{_≡_};
 ghost use Rattle.card.specs.Image.{readOf};
-ghost use Rattle.leprahoon.specs.Lists.{PrintsLine, WroteList, lineLength, readList, writeList};
+ghost use Rattle.card.specs.Image as reading;
+ghost use Rattle.card.specs.Result.{reportOf, valueOf};
+ghost use Rattle.line.specs.Line as line;
+ghost use Rattle.writer.specs.Writing as writing;
+ghost use Rattle.leprahoon.specs.Lists.{PrintsLine, WroteList};
 use card::Reading;
 use line::Line;
 use writer::Writing;
 
 fn list_of_reading(r: Reading) -> [usize; 3]
-    ensures { λ l. ⌜ l ≡ readList r ⌝ }
+    ensures { λ l. ⌜ l ≡ reportOf (reading.told r) ⌝ }
 {
     match r {
         Reading::Accepted { cells } => [0, 0, cells as usize],
@@ -16,7 +20,7 @@ fn list_of_reading(r: Reading) -> [usize; 3]
 }
 
 fn list_of_writing(w: Writing) -> [usize; 3]
-    ensures { λ l. ⌜ l ≡ writeList w ⌝ }
+    ensures { λ l. ⌜ l ≡ reportOf (writing.told w) ⌝ }
 {
     match w {
         Writing::Written { size } => [0, 0, size],
@@ -25,7 +29,7 @@ fn list_of_writing(w: Writing) -> [usize; 3]
 }
 
 fn length_of(l: Line) -> usize
-    ensures { λ n. ⌜ n ≡ lineLength l ⌝ }
+    ensures { λ n. ⌜ n ≡ valueOf (line.told l) ⌝ }
 {
     match l {
         Line::Written { length } => length,
@@ -36,7 +40,7 @@ fn length_of(l: Line) -> usize
 // Judges a card: the number and place of its refusal, or its global cells.
 #[no_mangle]
 pub extern "C" fn leprahoon_read(image: &[u8], report: &mut [usize; 3])
-    ensures { λ _. ⌜ now (report .exit) ≡ readList (readOf (now (image .entry))) ⌝ }
+    ensures { λ _. ⌜ now (report .exit) ≡ reportOf (readOf (now (image .entry))) ⌝ }
 {
     *report = list_of_reading(card::read(image));
 }

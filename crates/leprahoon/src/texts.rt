@@ -1,11 +1,14 @@
 // A card's text and the way back, on buffers that a C program lends.
 ghost use mathlib.Core.Path.{_≡_};
-ghost use Rattle.leprahoon.specs.Lists.{ImportedList, ListedList, importList, listingList};
+ghost use Rattle.card.specs.Result.{reportOf};
+ghost use Rattle.importer.specs.Importing as importing;
+ghost use Rattle.lister.specs.Listing as listing;
+ghost use Rattle.leprahoon.specs.Lists.{ImportedList, ListedList};
 use importer::Importing;
 use lister::Listing;
 
 fn list_of_listing(l: Listing) -> [usize; 3]
-    ensures { λ r. ⌜ r ≡ listingList l ⌝ }
+    ensures { λ r. ⌜ r ≡ reportOf (listing.told l) ⌝ }
 {
     match l {
         Listing::Written { length } => [0, 0, length],
@@ -15,7 +18,7 @@ fn list_of_listing(l: Listing) -> [usize; 3]
 }
 
 fn list_of_importing(i: Importing) -> [usize; 3]
-    ensures { λ r. ⌜ r ≡ importList i ⌝ }
+    ensures { λ r. ⌜ r ≡ reportOf (importing.told i) ⌝ }
 {
     match i {
         Importing::Imported { size } => [0, 0, size],

@@ -11,7 +11,7 @@ use lib.ListN.{length}
 use lib.Seq.{sets-eq}
 use Rattle.outcome.specs.Outcome.{Gives}
 use Rattle.outcome.specs.declared.Outcome.{Outcome}
-use Rattle.machine.specs.Calls.{Box, Called, boxed, runCall, setUp}
+use Rattle.machine.specs.Calls.{Box, Called, boxed, runCall, setUp, told}
 use Rattle.machine.specs.Runner.{isRefused, judgedPart, lineOf, runnerCall, runnerIn, runnerLine, stepLimit}
 use Rattle.machine.specs.Size.{full}
 use Rattle.machine.specs.declared.registers.Registers.{Registers}
@@ -30,9 +30,9 @@ unfolding runnerIn
 goes-on size image box e = rw e
 
 -- whether a call was refused, as its answer says
-pub told : {called : Called} {o : Outcome} {store : List ℤ} {tables : List ℕ} {values : List ℤ} {test outcome : Bool} →
-    Gives called o store tables values → test ≡ isRefused (o .answer) → test ≡ outcome → isRefused (called .answer) ≡ outcome
-told g e f = ap isRefused (sym (g .answered)) ∙ sym e ∙ f
+pub was-refused : {called : Called} {o : Outcome} {store : List ℤ} {tables : List ℕ} {values : List ℤ} {test outcome : Bool} →
+    Gives called o store tables values → test ≡ isRefused (told (o .answer)) → test ≡ outcome → isRefused (called .answer) ≡ outcome
+was-refused g e f = ap isRefused (sym (g .answered)) ∙ sym e ∙ f
 
 -- the box that a call left
 pub left-as : {called : Called} {o : Outcome} {store : List ℤ} {tables : List ℕ} {values : List ℤ} → Gives called o store tables values → boxed store tables values (o .registers) ≡ called .box
@@ -57,7 +57,7 @@ pub shut : {input before : List ℕ} → length before < room → Prints input b
 shut h =
     record {
       answered = rw (lt-ltb _ _ h);
-      left = refl;
+      left = rw (lt-ltb _ _ h);
       inside = λ n e. absurd (let w : _≡_ {A = ℕ} 0 1 = cc in omega arith);
     }
 
@@ -68,6 +68,6 @@ printed {input} {text} {before} {after} {n} line h p short =
     let size : n ≡ length text = omega (arith, p .reached) in
     record {
       answered = rw (le-ltb _ _ h, line, size);
-      left = rw (line, size) (p .written ∙ sets-eq text before 0 (omega arith) ∙ rw zero-add);
+      left = rw (le-ltb _ _ h, line) (p .written ∙ sets-eq text before 0 (omega arith) ∙ rw zero-add);
       inside = λ m e. let same : n ≡ m = cc in omega arith;
     }

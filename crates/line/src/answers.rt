@@ -3,7 +3,7 @@ ghost use Prim.Native.Nat.{_≤_};
 ghost use lib.ListN.{length};
 ghost use mathlib.Core.Path.{_≡_};
 ghost use Rattle.outcome.specs.Outcome.{Gives};
-ghost use Rattle.machine.specs.Calls.{boxed};
+ghost use Rattle.machine.specs.Calls.{boxed, told};
 ghost use Rattle.machine.specs.Registers.{zeros};
 ghost use Rattle.machine.specs.Runner.{isRefused, lineOf, runnerCall, runnerIn};
 ghost use Rattle.machine.specs.Size.{full};
@@ -56,7 +56,7 @@ fn put_answer(
 }
 
 fn is_refused(answer: Answer) -> bool
-    ensures { λ r. ⌜ r ≡ isRefused answer ⌝ }
+    ensures { λ r. ⌜ r ≡ isRefused (told answer) ⌝ }
 {
     match answer {
         Answer::Refused {

@@ -9,12 +9,14 @@ use lib.ListN.{drop, length, take}
 use lib.Seq.{sets, sets-eq}
 use Rattle.instruction.specs.Bytes.{wordAt}
 use Rattle.card.specs.Image.{Headed, cellsOf, countOf, readOf}
-use Rattle.card.specs.declared.reader.Reading.the-variants as reading
+use Rattle.card.specs.Result.{gives, refuses}
 use Rattle.card.proofs.Header.{accepts, headed}
-use Rattle.text.specs.Lines.{Puts}
+use Rattle.text.specs.Bytes.{bytes}
+use Rattle.text.specs.Lines.{Puts, line}
 use Rattle.lister.specs.Filling.{lineText}
 use Rattle.lister.specs.Listing.{Leaves, Lists, contentOf, imageLine, lineOf, listOf}
 use Rattle.lister.specs.declared.listing.Listing.the-variants.{Written, Past, Refused}
+use Rattle.words.proofs.Clash.{impossible}
 use Rattle.lister.proofs.Spelled.{start}
 
 -- ---- what a line shows
@@ -28,9 +30,17 @@ word-shown image (suc index) ne = let same : suc index - 1 ≡ index = omega ari
 
 -- ---- a line of an accepted image
 
+-- no line is empty
+some-text : (line content : ℕ) → 1 ≤ length (lineText line content)
+unfolding bytes line
+some-text zero content = omega arith
+some-text (suc index) content = omega arith
+
 module _ (image before : List ℕ) (line : ℕ) where
   pub past : countOf image < line → Leaves (lineOf image line (length before)) image line before Past before
-  past h = rw (lt-ltb _ _ h) (record { answered = refl; left = refl })
+  past h =
+      rw (lt-ltb _ _ h, le-ltb (length before) 0 (omega arith))
+      (record { answered = refl; some = λ k e. impossible cc; left = rw (lt-ltb _ _ h) })
 
   -- the line, of n bytes, was made at the start of another buffer
   module _ (content n : ℕ) {lent made : List ℕ} (h : line ≤ countOf image) (shown : content ≡ contentOf image line)
@@ -42,7 +52,7 @@ module _ (image before : List ℕ) (line : ℕ) where
     size = omega (arith, reached)
 
     pub no-room : length before < n → Leaves (lineOf image line (length before)) image line before (Refused 43 0) before
-    no-room full = rw (le-ltb _ _ h, ← size, lt-ltb _ _ full) (record { answered = refl; left = refl })
+    no-room full = rw (le-ltb _ _ h, ← size, lt-ltb _ _ full) (record { answered = refl; some = λ k e. impossible cc; left = refl })
 
     pub copied : {after : List ℕ} {next : ℕ} → n ≤ length before → n ≤ length lent → Puts (take n made) before 0 after next
         → Leaves (lineOf image line (length before)) image line before (Written n) after
@@ -51,17 +61,19 @@ module _ (image before : List ℕ) (line : ℕ) where
         let left : after ≡ imageLine image line ++ drop n before =
         p .written ∙ ap (sets before 0) text ∙ sets-eq (imageLine image line) before 0 (omega (arith, fits, size))
         ∙ ap (λ (k : ℕ). imageLine image line ++ drop k before) (sym reached) in
-        rw (le-ltb _ _ h, ← size, le-ltb _ _ fits) (record { answered = refl; left = left })
+        let most : 1 ≤ n = omega (arith, size, some-text line (contentOf image line)) in
+        rw (le-ltb _ _ h, ← size, le-ltb _ _ fits)
+        (record { answered = refl; some = λ k e. (let same : n ≡ k = cc in omega (arith, most, same)); left = rw (le-ltb _ _ h) left })
 
 -- ---- any image
 
-pub refused : (image before : List ℕ) (line number place : ℕ) → readOf image ≡ reading.Refused number place → Lists image line before (Refused number place) before
+pub refused : (image before : List ℕ) (line number place : ℕ) → readOf image ≡ refuses number place → Lists image line before (Refused number place) before
 unfolding listOf
-refused image before line number place e = rw e (record { answered = refl; left = refl })
+refused image before line number place e = rw e (record { answered = refl; some = λ k is. impossible cc; left = refl })
 
-pub head : (image : List ℕ) (cells : ℕ) → readOf image ≡ reading.Accepted cells → Headed image
+pub head : (image : List ℕ) (cells : ℕ) → readOf image ≡ gives cells → Headed image
 head image cells e = let a = accepts image cells e in headed image (a .long) (a .sized)
 
-pub listed-as : (image before : List ℕ) (line cells : ℕ) → readOf image ≡ reading.Accepted cells → listOf image line (length before) ≡ lineOf image line (length before)
+pub listed-as : (image before : List ℕ) (line cells : ℕ) → readOf image ≡ gives cells → listOf image line (length before) ≡ lineOf image line (length before)
 unfolding listOf
 listed-as image before line cells e = rw e

@@ -1,5 +1,5 @@
 -- The call that lists one line of a card: "Refusals: listing 1 to 5; .. 43 at 0, last, no room for the line".
-use Prim.Native.Nat.{ℕ, zero, suc, _+_, _*_}
+use Prim.Native.Nat.{ℕ, zero, suc, _+_, _*_, _≤_}
 use mathlib.Core.Bool.{cond}
 use mathlib.Core.List.{List, [], _++_}
 use mathlib.Core.Path.{_≡_}
@@ -7,8 +7,7 @@ use lib.Dec.{ltb}
 use lib.ListN.{drop, length}
 use Rattle.instruction.specs.Bytes.{wordAt}
 use Rattle.card.specs.Image.{cellsOf, countOf, headerSize, readOf}
-use Rattle.card.specs.declared.reader.Reading.{Reading}
-use Rattle.card.specs.declared.reader.Reading.the-variants as reading
+use Rattle.card.specs.Result.{Result, gives, refuses}
 use Rattle.lister.specs.Filling.{lineText}
 use Rattle.lister.specs.Text.{listingOf}
 use Rattle.lister.specs.declared.listing.Listing.{Listing}
@@ -23,48 +22,38 @@ contentOf image (suc index) = wordAt image (headerSize + 4 * index)
 abbrev pub imageLine : List ℕ → ℕ → List ℕ
 imageLine image line = lineText line (contentOf image line)
 
--- the answer on an accepted image of n instructions, which has the lines 0 to n, with so much room
-abbrev pub lineOf : List ℕ → ℕ → ℕ → Listing
-lineOf image line room =
-    cond (ltb (countOf image) line) Past
-    (cond (ltb room (length (imageLine image line))) (Refused 43 0)
-    (Written (length (imageLine image line))))
+-- the line that is asked for: an accepted image of n instructions has the lines 0 to n, and past the last there is nothing
+abbrev pub asked : List ℕ → ℕ → List ℕ
+asked image line = cond (ltb (countOf image) line) [] (imageLine image line)
+
+-- the answer on an accepted image, which gives the line's length, with so much room
+abbrev pub lineOf : List ℕ → ℕ → ℕ → Result
+lineOf image line room = cond (ltb room (length (asked image line))) (refuses 43 0) (gives (length (asked image line)))
 
 -- the image is refused as the reader does it, and first
-abbrev pub afterReading : Reading → Listing → Listing
-afterReading (reading.Refused number place) rest = Refused number place
-afterReading (reading.Accepted cells) rest = rest
+abbrev pub afterReading : Result → Result → Result
+afterReading (refuses number place) rest = refuses number place
+afterReading (gives cells) rest = rest
 
-unfoldable pub listOf : List ℕ → ℕ → ℕ → Listing
+unfoldable pub listOf : List ℕ → ℕ → ℕ → Result
 listOf image line room = afterReading (readOf image) (lineOf image line room)
 
--- the buffer afterwards: the line and the old bytes past it, or else what it was
-abbrev pub listed : Listing → List ℕ → ℕ → List ℕ → List ℕ
-listed (Written size) image line buffer = imageLine image line ++ drop size buffer
-listed Past image line buffer = buffer
-listed (Refused number place) image line buffer = buffer
+-- the buffer afterwards: the line and the old bytes past it, or, after a refusal, what it was
+abbrev pub listed : Result → List ℕ → ℕ → List ℕ → List ℕ
+listed (gives size) image line buffer = asked image line ++ drop size buffer
+listed (refuses number place) image line buffer = buffer
 
--- an answer's number, 0 where nothing is refused
-abbrev pub numberOf : Listing → ℕ
-numberOf (Written size) = 0
-numberOf Past = 0
-numberOf (Refused number place) = number
-
--- its place, 0 where nothing is refused
-abbrev pub placeOf : Listing → ℕ
-placeOf (Written size) = 0
-placeOf Past = 0
-placeOf (Refused number place) = place
-
--- and the line's length, 0 where none was written
-abbrev pub lengthOf : Listing → ℕ
-lengthOf (Written size) = size
-lengthOf Past = 0
-lengthOf (Refused number place) = 0
+-- the number, place and length of each case of the enum: past the last line, none
+abbrev pub told : Listing → Result
+told (Written size) = gives size
+told Past = gives 0
+told (Refused number place) = refuses number place
 
 -- an answer, and the buffer that it leaves
-pub record Leaves (expected : Listing) (image : List ℕ) (line : ℕ) (before : List ℕ) (answer : Listing) (after : List ℕ) : Type 0 where
-  pub answered : answer ≡ expected
+pub record Leaves (expected : Result) (image : List ℕ) (line : ℕ) (before : List ℕ) (answer : Listing) (after : List ℕ) : Type 0 where
+  pub answered : told answer ≡ expected
+  -- so past the last line, and there alone, the answer is Past
+  pub some : (size : ℕ) → answer ≡ Written size → 1 ≤ size
   pub left : after ≡ listed expected image line before
 
 -- the promise of the call, for every image, line and buffer
@@ -78,4 +67,4 @@ linesFrom image line (suc count) = imageLine image line ++ linesFrom image (suc 
 
 -- "line by line": the lines 0 to n of an image that is accepted, one after the other, are its listing. The proof is in proofs/Whole.antt
 abbrev pub LinesAreListing : Type 0
-LinesAreListing = (cells : ℕ) (image : List ℕ) → readOf image ≡ reading.Accepted cells → linesFrom image 0 (suc (countOf image)) ≡ listingOf image
+LinesAreListing = (cells : ℕ) (image : List ℕ) → readOf image ≡ gives cells → linesFrom image 0 (suc (countOf image)) ≡ listingOf image

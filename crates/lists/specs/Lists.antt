@@ -3,8 +3,7 @@ use Prim.Native.Nat.{ℕ}
 use mathlib.Core.List.{List, [], _∷_}
 use mathlib.Core.Path.{_≡_, refl}
 use lib.ListN.{getD}
-use Rattle.machine.specs.declared.answers.Answer.{Answer}
-use Rattle.machine.specs.declared.answers.Answer.the-variants.{Halted, Running, Stuck, Faulted, Refused}
+use Rattle.machine.specs.Calls.{Report}
 use Rattle.machine.specs.declared.registers.Registers.{Registers}
 
 -- the registers as eleven numbers
@@ -33,10 +32,6 @@ registersOf l =
 there-and-back : (r : Registers) → registersOf (listOf r) ≡ r
 there-and-back r = refl
 
--- an answer and a count as four numbers: the state (4 for a refused call), number, place, count
-abbrev pub answerList : Answer → ℕ → List ℕ
-answerList Halted count = 0 ∷ 0 ∷ 0 ∷ count ∷ []
-answerList Running count = 1 ∷ 0 ∷ 0 ∷ count ∷ []
-answerList Stuck count = 2 ∷ 0 ∷ 0 ∷ count ∷ []
-answerList (Faulted number place) count = 3 ∷ number ∷ place ∷ count ∷ []
-answerList (Refused number place) count = 4 ∷ number ∷ place ∷ count ∷ []
+-- an answer and a count as four numbers
+abbrev pub answerList : Report → ℕ → List ℕ
+answerList answer count = answer .state ∷ answer .number ∷ answer .place ∷ count ∷ []

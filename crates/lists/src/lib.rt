@@ -1,5 +1,6 @@
 // Registers and answers as lists of numbers. Inner: the functions for C take and give them.
 ghost use mathlib.Core.Path.{_≡_};
+ghost use Rattle.machine.specs.Calls.{told};
 ghost use Rattle.lists.specs.Lists.{answerList, listOf, registersOf};
 use machine::Answer;
 use machine::Registers;
@@ -40,9 +41,9 @@ pub fn list_of(r: Registers) -> [usize; 11]
     ]
 }
 
-// A state's number, the number of a fault or refusal, its place, and a count.
+// The state, or that the call was refused, the number of a fault or refusal, its place, and a count.
 pub fn report_of(answer: Answer, count: usize) -> [usize; 4]
-    ensures { λ l. ⌜ l ≡ answerList answer count ⌝ }
+    ensures { λ l. ⌜ l ≡ answerList (told answer) count ⌝ }
 {
     match answer {
         Answer::Halted => [0, 0, 0, count],

@@ -1,7 +1,7 @@
 -- A box that calls leave: right, and of the right sizes. A call with the card goes on, and one with a refused image changes nothing.
 -- Assumes nothing.
 use Prim.Native.Nat.{ℕ, _+_, _*_, _<_, _≤_}
-use mathlib.Core.Path.{_≡_, sym}
+use mathlib.Core.Path.{_≡_, ap, sym}
 use mathlib.Core.Bool.{Bool, true, false, cond}
 use mathlib.Core.List.{List}
 use mathlib.Core.Logic.{_≢_}
@@ -14,11 +14,10 @@ use Rattle.card.proofs.Words.{count as count-words}
 use Rattle.card.specs.Code.{firstBad, wordsOf}
 use Rattle.card.specs.Image.{countOf, lastOf, readOf}
 use Rattle.card.specs.declared.scan.Scan.the-variants as scan
-use Rattle.card.specs.declared.reader.Reading.the-variants as reading
+use Rattle.card.specs.Result as result
 use Rattle.machine.specs.Book.{Book, Permits, bookOf}
-use Rattle.machine.specs.Calls.{Box, Called, accepted, answerOf, boxOf, cardOf, ranOf, refused, runCall, setUp, stateOf, stepCall, storeFits}
-use Rattle.machine.specs.Registers.{faulted, running, stuck}
-use Rattle.machine.specs.declared.answers.Answer.the-variants.{Faulted, Halted, Refused, Running, Stuck}
+use Rattle.machine.specs.Calls.{Box, Called, Report, accepted, answerOf, boxOf, cardOf, faultedBy, inState, ranOf, refusedBy, refusedState, refused, runCall, setUp, stateOf, stepCall, storeFits}
+use Rattle.machine.specs.Registers.{faulted, halted, running, stuck}
 use Rattle.machine.specs.Played.{Call, callOf, imageOf, stepOn, runOn}
 use Rattle.machine.specs.Plain.{Formed}
 use Rattle.machine.specs.Size.{semaphoreLimit, shared, storeSize, tablesSize, valuesSize}
@@ -38,7 +37,7 @@ use Rattle.machine.proofs.Targets.{Card, all-fine, opcode-known, operan
 
 -- ---- the card
 
-pub card-of : (image : List ℕ) (cells : ℕ) → readOf image ≡ reading.Accepted cells → Card (cardOf image)
+pub card-of : (image : List ℕ) (cells : ℕ) → readOf image ≡ result.gives cells → Card (cardOf image)
 card-of image cells e =
     let a = accepts image cells e in
     let words : List ℕ = wordsOf (drop 9 image) in
@@ -118,17 +117,17 @@ goes-on size box book ran h = rw (held-store size box book h, held-formed size b
 -- ---- calls
 
 -- an answer that is no refusal
-answers : (size : ℕ) (s : State) (number place : ℕ) → answerOf (s .regs) ≢ Refused number place
+answers : (size : ℕ) (s : State) (number place : ℕ) → answerOf (s .regs) ≢ refusedBy number place
 answers size s number place e = by-state (eqb (s .regs .state) running) (eqb (s .regs .state) stuck) (eqb (s .regs .state) faulted) e
   where
-    by-state : (a b c : Bool) → cond a Running (cond b Stuck (cond c (Faulted (s .regs .fault) (s .regs .pc)) Halted)) ≢ Refused number place
-    by-state true b c k = absurd (let z : _≡_ {A = ℕ} 0 1 = cc in omega arith)
-    by-state false true c k = absurd (let z : _≡_ {A = ℕ} 0 1 = cc in omega arith)
-    by-state false false true k = absurd (let z : _≡_ {A = ℕ} 0 1 = cc in omega arith)
-    by-state false false false k = absurd (let z : _≡_ {A = ℕ} 0 1 = cc in omega arith)
+    by-state : (a b c : Bool) → cond a (inState running) (cond b (inState stuck) (cond c (faultedBy (s .regs .fault) (s .regs .pc)) (inState halted))) ≢ refusedBy number place
+    by-state true b c k = let other : running ≡ refusedState = ap (λ (r : Report). r .state) k in omega arith
+    by-state false true c k = let other : stuck ≡ refusedState = ap (λ (r : Report). r .state) k in omega arith
+    by-state false false true k = let other : faulted ≡ refusedState = ap (λ (r : Report). r .state) k in omega arith
+    by-state false false false k = let other : halted ≡ refusedState = ap (λ (r : Report). r .state) k in omega arith
 
 -- a refused image changes nothing at all
-pub refused-call : (size : ℕ) (call : Call) (box : Box) (number place : ℕ) → readOf (imageOf call) ≡ reading.Refused number place →
+pub refused-call : (size : ℕ) (call : Call) (box : Box) (number place : ℕ) → readOf (imageOf call) ≡ result.refuses number place →
     callOf size call box ≡ refused number place box
 unfolding stepCall runCall
 refused-call size (stepOn image) box number place e = rw e
@@ -138,14 +137,14 @@ refused-call size (runOn image m) box number place e = rw e
 pub record Went (size : ℕ) (book : Book) (called : Called) : Type 0 where
   pub box : Held size (called .box) (bookOf book (called .trace))
   pub lawful : Lawful book (called .trace)
-  pub answer : (number place : ℕ) → called .answer ≢ Refused number place
+  pub answer : (number place : ℕ) → called .answer ≢ refusedBy number place
 
 went : (size : ℕ) (box : Box) (book : Book) (ran : Ran) → Held size box book → After size book ran → Went size book (accepted size box ran)
 went size box book ran h r =
     rw (goes-on size box book ran h)
     (record { box = held size (ran .state) (bookOf book (ran .trace)) (r .right); lawful = r .lawful; answer = answers size (ran .state) })
 
-pub card-call : (size : ℕ) (call : Call) (box : Box) (book : Book) (cells : ℕ) → readOf (imageOf call) ≡ reading.Accepted cells → Held size box book →
+pub card-call : (size : ℕ) (call : Call) (box : Box) (book : Book) (cells : ℕ) → readOf (imageOf call) ≡ result.gives cells → Held size box book →
     Went size book (callOf size call box)
 unfolding stepCall runCall
 card-call size (stepOn image) box book cells e h =
@@ -155,7 +154,7 @@ card-call size (runOn image m) box book cells e h =
 
 -- ---- setting up
 
-pub set-up : (size : ℕ) (image : List ℕ) (cells : ℕ) (lent : Box) → 1 ≤ size → readOf image ≡ reading.Accepted cells → cells ≤ shared size →
+pub set-up : (size : ℕ) (image : List ℕ) (cells : ℕ) (lent : Box) → 1 ≤ size → readOf image ≡ result.gives cells → cells ≤ shared size →
     length (lent .store) ≡ storeSize size → length (lent .tables) ≡ tablesSize size → length (lent .values) ≡ valuesSize size →
     setUp size image lent .box ≡ boxOf (start size cells)
 unfolding setUp

@@ -1,6 +1,6 @@
 -- What a call keeps, and what a refusal and a fault change: the first laws of specs/Laws.antt. Assumes nothing.
 use Prim.Native.Nat.{ℕ, _<_, _≤_}
-use mathlib.Core.Path.{_≡_, refl}
+use mathlib.Core.Path.{_≡_, ap, refl}
 use mathlib.Core.List.{List, [], _∷_, _++_}
 use mathlib.Core.Logic.{_⊎_, _≢_, inl, inr}
 use native.Mathlib.Omega.{arith}
@@ -10,23 +10,22 @@ use lib.ListN.{length, getD}
 use borrow.Author.Tests.{eq-eqb, eqb-true}
 use Rattle.card.proofs.Header.{accepts}
 use Rattle.card.specs.Image.{readOf}
-use Rattle.card.specs.declared.reader.Reading.{Reading}
-use Rattle.card.specs.declared.reader.Reading.the-variants as reading
+use Rattle.card.specs.Result.{Result}
+use Rattle.card.specs.Result as result
 use Rattle.machine.specs.Book.{Book, Entry, blank, bookOf}
-use Rattle.machine.specs.Calls.{Box, cardOf, ranOf, refused, runCall, setUp, setUpOf, stateOf, storeFits}
+use Rattle.machine.specs.Calls.{Box, Report, cardOf, inState, ranOf, refused, refusedBy, refusedState, runCall, setUp, setUpOf, stateOf, storeFits}
 use Rattle.machine.specs.Fair.{holderOf}
 use Rattle.machine.specs.Played.{Call, callOf, imageOf, runOn, stepOn}
 use Rattle.machine.specs.Execution.{Outcome, done, exec, fault}
 use Rattle.machine.specs.Instructions.{Instruction, decoded}
 use Rattle.machine.specs.Laws.{FaultKeeps, FaultNumbers, KeepsFormed, RefusedKeeps, RefusedSetUp, SetUpForms, Sound}
 use Rattle.machine.specs.Plain.{Formed}
-use Rattle.machine.specs.Registers.{stopped, zeros}
+use Rattle.machine.specs.Registers.{running, stopped, zeros}
 use Rattle.machine.specs.Size.{semaphoreLimit, tablesSize}
 use Rattle.machine.specs.State.{State, start, withRegs}
 use Rattle.machine.specs.Step.{carried, entered, onward, run}
 use Rattle.machine.specs.Tables.{Tables, atMutex, atSemaphore, lives, queue, tablesOf}
 use Rattle.machine.specs.WellFormed.{formed, tablesFit, wellFormed}
-use Rattle.machine.specs.declared.answers.Answer.the-variants.{Refused, Running}
 use Rattle.machine.specs.declared.registers.Registers.{Registers}
 use Rattle.machine.proofs.Every.{and-first, and-second}
 use Rattle.machine.proofs.Held.{Held, card-call, card-of, held, held-formed, held-store, set-up}
@@ -101,15 +100,15 @@ held-sound size box book h = record { store = held-store size box book h; formed
 -- a call on a box, whatever its number of steps: it is refused, or it runs
 pub data Meets (size : ℕ) (image : List ℕ) (box : Box) : Type 0 where
   refuses : (number place : ℕ) → ((m : ℕ) → runCall size image m box ≡ refused number place box) → Meets size image box
-  goes : (cells : ℕ) → readOf image ≡ reading.Accepted cells → Sound size box →
+  goes : (cells : ℕ) → readOf image ≡ result.gives cells → Sound size box →
       ((m : ℕ) → runCall size image m box ≡ ranOf (run size (cardOf image) (stateOf size box) m)) → Meets size image box
 
 pub meets : (size : ℕ) (image : List ℕ) (box : Box) → Meets size image box
 meets size image box = by-card (readOf image) refl
   where
-    by-card : (r : Reading) → readOf image ≡ r → Meets size image box
-    by-card (reading.Refused number place) r = refuses number place (λ m. run-unread size image box number place m r)
-    by-card (reading.Accepted cells) r =
+    by-card : (r : Result) → readOf image ≡ r → Meets size image box
+    by-card (result.refuses number place) r = refuses number place (λ m. run-unread size image box number place m r)
+    by-card (result.gives cells) r =
         cases (storeFits size (box .store))
         (λ f.
         cases (wellFormed size (box .regs) (box .tables) (box .values))
@@ -160,13 +159,13 @@ refused-keeps size call box number place e = by-meeting (meets size (imageOf cal
 abbrev zeroed : Box → Box
 zeroed box = record { store = box .store; tables = box .tables; values = box .values; regs = zeros }
 
-no-refusal : (number place : ℕ) → Running ≢ Refused number place
-no-refusal number place e = absurd (let z : _≡_ {A = ℕ} 0 1 = cc in omega arith)
+no-refusal : (number place : ℕ) → inState running ≢ refusedBy number place
+no-refusal number place e = let other : running ≡ refusedState = ap (λ (r : Report). r .state) e in omega arith
 
-set-up-keeps : (size : ℕ) (r : Reading) (box : Box) (number place : ℕ) → setUpOf size r box .answer ≡ Refused number place →
+set-up-keeps : (size : ℕ) (r : Result) (box : Box) (number place : ℕ) → setUpOf size r box .answer ≡ refusedBy number place →
     (setUpOf size r box .box ≡ zeroed box) × (setUpOf size r box .trace ≡ [])
-set-up-keeps size (reading.Refused a b) box number place e = (refl, refl)
-set-up-keeps size (reading.Accepted cells) box number place e =
+set-up-keeps size (result.refuses a b) box number place e = (refl, refl)
+set-up-keeps size (result.gives cells) box number place e =
     cases (storeFits size (box .store))
     (λ f.
     cases (tablesFit size (box .tables) (box .values))

@@ -8,7 +8,7 @@ use native.Mathlib.Omega.{arith}
 use lib.ListN.{length, drop, getD, length-drop, take}
 use lib.Seq.{drop-cons, take-all, take-length}
 use Rattle.card.specs.Image.{readOf}
-use Rattle.card.specs.declared.reader.Reading.the-variants as reading
+use Rattle.card.specs.Result as result
 use Rattle.machine.specs.Book.{Book, Entry, blank, bookOf, fed, namesLeft}
 use Rattle.machine.specs.Calls.{Box, setUp, stateOf}
 use Rattle.machine.specs.Fair.{Fair, holderOf}
@@ -66,7 +66,7 @@ lawful-at [] book l j h = absurd (omega arith)
 lawful-at (e ∷ rest) book l zero h = l .0
 lawful-at (e ∷ rest) book l (suc j) h = lawful-at rest (fed book e) (l .1) j (omega arith)
 
-module _ (size : ℕ) (some : 1 ≤ size) (card : List ℕ) (cells : ℕ) (lent : Box) (calls : List Call) (e : readOf card ≡ reading.Accepted cells)
+module _ (size : ℕ) (some : 1 ≤ size) (card : List ℕ) (cells : ℕ) (lent : Box) (calls : List Call) (e : readOf card ≡ result.gives cells)
     (fits : cells ≤ shared size) (store : length (lent .store) ≡ storeSize size) (tables : length (lent .tables) ≡ tablesSize size)
     (values : length (lent .values) ≡ valuesSize size) (all : Each (Fitting card) calls) where
   trace : List Entry

@@ -6,13 +6,12 @@ use mathlib.Core.Logic.{inl, inr}
 use native.Mathlib.Omega.{arith}
 use Rattle.card.proofs.Header.{accepts, refused-number}
 use Rattle.card.specs.Image.{readOf}
-use Rattle.card.specs.declared.reader.Reading.the-variants as reading
+use Rattle.card.specs.Result as result
 use Rattle.machine.specs.Book.{Book, blank, bookOf}
-use Rattle.machine.specs.Calls.{Box, boxOf}
+use Rattle.machine.specs.Calls.{Box, Report, boxOf}
 use Rattle.machine.specs.Lists.{Each}
 use Rattle.machine.specs.Played.{AfterCalls, Call, Fitting, NotDamaged, callOf, imageOf, played}
 use Rattle.machine.specs.State.{start}
-use Rattle.machine.specs.declared.answers.Answer.the-variants.{Refused}
 use Rattle.machine.proofs.Held.{Held, card-call, held, refused-call, set-up}
 use Rattle.machine.proofs.Releases.{Lawful, lawful-append}
 use Rattle.machine.proofs.Start.{start-right}
@@ -24,7 +23,7 @@ record Kept (size : ℕ) (book : Book) (call : Call) (before : Box) : Type 0 whe
   lawful : Lawful book (callOf size call before .trace)
   answer : NotDamaged (callOf size call before .answer)
 
-one-call : (size : ℕ) (card : List ℕ) (cells : ℕ) → readOf card ≡ reading.Accepted cells → (call : Call) → Fitting card call →
+one-call : (size : ℕ) (card : List ℕ) (cells : ℕ) → readOf card ≡ result.gives cells → (call : Call) → Fitting card call →
     (before : Box) (book : Book) → Held size before book → Kept size book call before
 unfolding bookOf Lawful
 one-call size card cells e call (inl same) before book h =
@@ -38,11 +37,8 @@ one-call size card cells e call (inr bad) before book h =
     record {
       box = rw is h;
       lawful = rw is tt;
-      answer = λ p k. let mine : number ≡ 7 = seven number place p (sym (ap (λ c. c .answer) is) ∙ k) in omega arith;
+      answer = λ p k. let mine : number ≡ 7 = ap (λ (r : Report). r .number) (sym (ap (λ c. c .answer) is) ∙ k) in omega arith;
     }
-  where
-    seven : (a b p : ℕ) → Refused a b ≡ Refused 7 p → a ≡ 7
-    seven a b p k = cc
 
 -- what a list of calls leaves
 pub record Led (size : ℕ) (book : Book) (calls : List Call) (before : Box) : Type 0 where
@@ -50,7 +46,7 @@ pub record Led (size : ℕ) (book : Book) (calls : List Call) (before : Box) : T
   pub lawful : Lawful book (played size calls before .trace)
   pub answers : Each NotDamaged (played size calls before .answers)
 
-list : (size : ℕ) (card : List ℕ) (cells : ℕ) → readOf card ≡ reading.Accepted cells → (calls : List Call) → Each (Fitting card) calls →
+list : (size : ℕ) (card : List ℕ) (cells : ℕ) → readOf card ≡ result.gives cells → (calls : List Call) → Each (Fitting card) calls →
     (before : Box) (book : Book) → Held size before book → Led size book calls before
 unfolding played Each bookOf Lawful
 list size card cells e [] all before book h = record { box = h; lawful = tt; answers = tt }

@@ -8,13 +8,12 @@ use native.Mathlib.Omega.{arith}
 use lib.Dec.{eqb}
 use lib.ListN.{length-append}
 use Rattle.machine.specs.Book.{Entry}
-use Rattle.machine.specs.Calls.{Box, answerOf, boxOf, cardOf, countOf, runCall, stateOf}
+use Rattle.machine.specs.Calls.{Box, Report, answerOf, boxOf, cardOf, countOf, faultedBy, inState, refusedBy, refusedState, runCall, stateOf}
 use Rattle.machine.specs.Laws.{AnswersAgain, CallCounted, CallCounts, Counted, RunCounts, RunsAdd, StepIsRun}
-use Rattle.machine.specs.Registers.{faulted, isRunning, running, stopped, stuck}
+use Rattle.machine.specs.Registers.{faulted, halted, isRunning, running, stopped, stuck}
 use Rattle.machine.specs.State.{State, withRegs}
 use Rattle.machine.specs.Step.{carried, run}
 use Rattle.machine.specs.Step as steps
-use Rattle.machine.specs.declared.answers.Answer.the-variants.{Faulted, Halted, Refused, Running, Stuck}
 use Rattle.machine.specs.declared.registers.Registers.{Registers}
 use Rattle.machine.proofs.Held.{card-of, held, held-formed, held-store, read-back}
 use Rattle.machine.proofs.Laws.{Meets, bookFor, fault-keeps, goes, meets, refuses, sound-held}
@@ -80,17 +79,17 @@ run-counts size words s m = counts size words m s
 -- ---- of the calls
 
 -- only a running machine is answered so
-says-running : (r : Registers) → answerOf r ≡ Running → isRunning r ≡ true
+says-running : (r : Registers) → answerOf r ≡ inState running → isRunning r ≡ true
 says-running r e = by-state (eqb (r .state) running) (eqb (r .state) stuck) (eqb (r .state) faulted) e
   where
-    by-state : (a b c : Bool) → cond a Running (cond b Stuck (cond c (Faulted (r .fault) (r .pc)) Halted)) ≡ Running → a ≡ true
+    by-state : (a b c : Bool) → cond a (inState running) (cond b (inState stuck) (cond c (faultedBy (r .fault) (r .pc)) (inState halted))) ≡ inState running → a ≡ true
     by-state true b c k = refl
-    by-state false true c k = absurd (let z : _≡_ {A = ℕ} 0 1 = cc in omega arith)
-    by-state false false true k = absurd (let z : _≡_ {A = ℕ} 0 1 = cc in omega arith)
-    by-state false false false k = absurd (let z : _≡_ {A = ℕ} 0 1 = cc in omega arith)
+    by-state false true c k = absurd (let other : stuck ≡ running = ap (λ (r : Report). r .state) k in omega arith)
+    by-state false false true k = absurd (let other : faulted ≡ running = ap (λ (r : Report). r .state) k in omega arith)
+    by-state false false false k = absurd (let other : halted ≡ running = ap (λ (r : Report). r .state) k in omega arith)
 
-not-running : (number place : ℕ) → Refused number place ≢ Running
-not-running number place e = absurd (let z : _≡_ {A = ℕ} 0 1 = cc in omega arith)
+not-running : (number place : ℕ) → refusedBy number place ≢ inState running
+not-running number place e = let other : refusedState ≡ running = ap (λ (r : Report). r .state) e in omega arith
 
 -- what a call reads of a box is written back as it was
 box-back : (size : ℕ) (box : Box) → boxOf (stateOf size box) ≡ box

@@ -7,8 +7,8 @@ use mathlib.Core.Path.{_≡_, refl}
 use native.Mathlib.Nat.{suc-add, zero-add}
 use lib.ListN.{length-append}
 use Rattle.card.specs.Image.{readOf}
-use Rattle.card.specs.declared.reader.Reading.{Reading}
-use Rattle.card.specs.declared.reader.Reading.the-variants as reading
+use Rattle.card.specs.Result.{Result}
+use Rattle.card.specs.Result as result
 use Rattle.machine.specs.Calls.{Box, boxOf, cardOf, ranOf, refused, runCall, stateOf, stepCall, storeFits}
 use Rattle.machine.specs.Laws.{then}
 use Rattle.machine.specs.Registers.{isRunning}
@@ -76,20 +76,20 @@ step-is-run size image box = rw step-run
 module _ (size : ℕ) (image : List ℕ) (box : Box) where
   -- what a run call gives: refused for the card, ..
   pub run-unread :
-      (number place m : ℕ) → readOf image ≡ reading.Refused number place → runCall size image m box ≡ refused number place box
+      (number place m : ℕ) → readOf image ≡ result.refuses number place → runCall size image m box ≡ refused number place box
   unfolding runCall
   run-unread number place m r = rw r
 
   -- .. for the store, ..
   pub run-misfit :
-      (cells m : ℕ) → readOf image ≡ reading.Accepted cells → storeFits size (box .store) ≡ false →
+      (cells m : ℕ) → readOf image ≡ result.gives cells → storeFits size (box .store) ≡ false →
       runCall size image m box ≡ refused 6 0 box
   unfolding runCall
   run-misfit cells m r f = rw (r, f)
 
   -- .. or for the tables, ..
   pub run-unformed :
-      (cells m : ℕ) → readOf image ≡ reading.Accepted cells → storeFits size (box .store) ≡ true →
+      (cells m : ℕ) → readOf image ≡ result.gives cells → storeFits size (box .store) ≡ true →
       wellFormed size (box .regs) (box .tables) (box .values) ≡ false →
       runCall size image m box ≡ refused 7 0 box
   unfolding runCall
@@ -97,7 +97,7 @@ module _ (size : ℕ) (image : List ℕ) (box : Box) where
 
   -- .. or the run of the definition
   pub run-done :
-      (cells m : ℕ) → readOf image ≡ reading.Accepted cells → storeFits size (box .store) ≡ true →
+      (cells m : ℕ) → readOf image ≡ result.gives cells → storeFits size (box .store) ≡ true →
       wellFormed size (box .regs) (box .tables) (box .values) ≡ true →
       runCall size image m box ≡ ranOf (run size (cardOf image) (stateOf size box) m)
   unfolding runCall
@@ -107,7 +107,7 @@ module _ (size : ℕ) (image : List ℕ) (box : Box) where
 -- the state that the run came to
 abbrev pub Kept : ℕ → List ℕ → ℕ → Box → Type 0
 Kept size image m box =
-    (cells : ℕ) → readOf image ≡ reading.Accepted cells → storeFits size (box .store) ≡ true →
+    (cells : ℕ) → readOf image ≡ result.gives cells → storeFits size (box .store) ≡ true →
     wellFormed size (box .regs) (box .tables) (box .values) ≡ true →
     let after = run size (cardOf image) (stateOf size box) m .state in
     (storeFits size (after .store) ≡ true)
@@ -126,7 +126,7 @@ runs-add size image box a b kept = on (readOf image) refl
         ≡ then (runCall size image a box) (runCall size image b (runCall size image a box .box))
 
     ran :
-        (cells : ℕ) → readOf image ≡ reading.Accepted cells → storeFits size (box .store) ≡ true →
+        (cells : ℕ) → readOf image ≡ result.gives cells → storeFits size (box .store) ≡ true →
         wellFormed size (box .regs) (box .tables) (box .values) ≡ true → Adds
     ran cells r f w =
         let k = kept cells r f w in
@@ -139,14 +139,14 @@ runs-add size image box a b kept = on (readOf image) refl
           run-add,
         )
 
-    formed : (cells : ℕ) → readOf image ≡ reading.Accepted cells → storeFits size (box .store) ≡ true → Adds
+    formed : (cells : ℕ) → readOf image ≡ result.gives cells → storeFits size (box .store) ≡ true → Adds
     formed cells r f =
         cases (wellFormed size (box .regs) (box .tables) (box .values)) (ran cells r f)
         λ w. rw (run-unformed size image box cells (a + b) r f w, run-unformed size image box cells a r f w, run-unformed size image box cells b r f w)
 
-    on : (r : Reading) → readOf image ≡ r → Adds
-    on (reading.Refused number place) r =
+    on : (r : Result) → readOf image ≡ r → Adds
+    on (result.refuses number place) r =
         rw (run-unread size image box number place (a + b) r, run-unread size image box number place a r, run-unread size image box number place b r)
-    on (reading.Accepted cells) r =
+    on (result.gives cells) r =
         cases (storeFits size (box .store)) (formed cells r)
         λ f. rw (run-misfit size image box cells (a + b) r f, run-misfit size image box cells a r f, run-misfit size image box cells b r f)

@@ -8,7 +8,7 @@ use lib.ListN.{length}
 use borrow.Author.Tests.{le-ltb, lt-ltb}
 use Rattle.card.proofs.Header.{accepts}
 use Rattle.card.specs.Image.{readOf}
-use Rattle.card.specs.declared.reader.Reading.the-variants as reading
+use Rattle.card.specs.Result as result
 use Rattle.machine.specs.Book.{Book, Entry}
 use Rattle.machine.specs.Calls.{Box, setUp}
 use Rattle.machine.specs.Lists.{Each}
@@ -55,7 +55,7 @@ opened size s book l =
           (λ h. absurd (omega (arith, ap length (l .unused k h))));
     }
 
-module _ (size : ℕ) (some : 1 ≤ size) (card : List ℕ) (cells : ℕ) (lent : Box) (calls : List Call) (e : readOf card ≡ reading.Accepted cells)
+module _ (size : ℕ) (some : 1 ≤ size) (card : List ℕ) (cells : ℕ) (lent : Box) (calls : List Call) (e : readOf card ≡ result.gives cells)
     (fits : cells ≤ shared size) (store : length (lent .store) ≡ storeSize size) (tables : length (lent .tables) ≡ tablesSize size)
     (values : length (lent .values) ≡ valuesSize size) (all : Each (Fitting card) calls) where
   trace : List Entry

@@ -7,10 +7,10 @@ use lib.IntN.{ℤ}
 use lib.ListN.{length}
 use Rattle.card.specs.Code.{wordsOf}
 use Rattle.card.specs.Image.{codeOf, readOf}
-use Rattle.card.specs.declared.reader.Reading.{Reading}
-use Rattle.card.specs.declared.reader.Reading.the-variants as reading
+use Rattle.card.specs.Result.{Result}
+use Rattle.card.specs.Result as result
 use Rattle.machine.specs.Book.{Entry}
-use Rattle.machine.specs.Registers.{faulted, running, stuck, zeros}
+use Rattle.machine.specs.Registers.{faulted, halted, running, stuck, zeros}
 use Rattle.machine.specs.Size.{storeSize}
 use Rattle.machine.specs.State.{State, start}
 use Rattle.machine.specs.Step.{Ran, run, step}
@@ -39,9 +39,38 @@ stateOf size box =
 abbrev pub boxOf : State → Box
 boxOf s = record { store = s .store; tables = sliceOf (s .tables); values = s .values; regs = s .regs }
 
+-- what a call answers, by numbers: the machine's state, or that the call was refused; the number in the paper's table, of a fault or a refusal; and
+-- its place
+pub record Report : Type 0 where
+  pub state : ℕ
+  pub number : ℕ
+  pub place : ℕ
+
+-- halted, running or stuck: no number, no place
+abbrev pub inState : ℕ → Report
+inState state = record { state = state; number = 0; place = 0 }
+
+abbrev pub faultedBy : ℕ → ℕ → Report
+faultedBy number place = record { state = faulted; number = number; place = place }
+
+-- beside the machine's four states
+abbrev pub refusedState : ℕ
+refusedState = 4
+
+abbrev pub refusedBy : ℕ → ℕ → Report
+refusedBy number place = record { state = refusedState; number = number; place = place }
+
+-- the state, number and place of each case of the calls' enum
+abbrev pub told : Answer → Report
+told Halted = inState halted
+told Running = inState running
+told Stuck = inState stuck
+told (Faulted number place) = faultedBy number place
+told (Refused number place) = refusedBy number place
+
 -- what a call gives: its answer, the instructions carried out, and the box
 pub record Called : Type 0 where
-  pub answer : Answer
+  pub answer : Report
   pub trace : List Entry
   pub box : Box
 
@@ -50,31 +79,16 @@ abbrev pub countOf : Called → ℕ
 countOf c = length (c .trace)
 
 -- "It answers the state again, a faulted one with its number and place"
-abbrev pub answerOf : Registers → Answer
+abbrev pub answerOf : Registers → Report
 answerOf r =
-    cond (eqb (r .state) running) Running
-    (cond (eqb (r .state) stuck) Stuck
-    (cond (eqb (r .state) faulted) (Faulted (r .fault) (r .pc))
-    Halted))
-
--- an answer's number in the paper's table, 0 where there is none, and its place
-abbrev pub numberOf : Answer → ℕ
-numberOf Halted = 0
-numberOf Running = 0
-numberOf Stuck = 0
-numberOf (Faulted number place) = number
-numberOf (Refused number place) = number
-
-abbrev pub placeOf : Answer → ℕ
-placeOf Halted = 0
-placeOf Running = 0
-placeOf Stuck = 0
-placeOf (Faulted number place) = place
-placeOf (Refused number place) = place
+    cond (eqb (r .state) running) (inState running)
+    (cond (eqb (r .state) stuck) (inState stuck)
+    (cond (eqb (r .state) faulted) (faultedBy (r .fault) (r .pc))
+    (inState halted)))
 
 -- "Numbers 1 to 8 alter nothing, and the registers come back as given with count 0"
 abbrev pub refused : ℕ → ℕ → Box → Called
-refused number place box = record { answer = Refused number place; trace = []; box = box }
+refused number place box = record { answer = refusedBy number place; trace = []; box = box }
 
 abbrev pub ranOf : Ran → Called
 ranOf r = record { answer = answerOf (r .state .regs); trace = r .trace; box = boxOf (r .state) }
@@ -91,9 +105,9 @@ accepted size box ran =
     (ranOf ran))
 
 -- "In order: 1, 2, 3, then the first bad instruction (4 before 5), 6, 7"; "numbers 1 to 7 are tested before that, by a run of 0 steps too"
-abbrev pub judged : ℕ → Reading → Box → Ran → Called
-judged size (reading.Refused number place) box ran = refused number place box
-judged size (reading.Accepted cells) box ran = accepted size box ran
+abbrev pub judged : ℕ → Result → Box → Ran → Called
+judged size (result.refuses number place) box ran = refused number place box
+judged size (result.gives cells) box ran = accepted size box ran
 
 -- the words of a card
 abbrev pub cardOf : List ℕ → List ℕ
@@ -111,12 +125,12 @@ refusedSetUp number place box =
     refused number place (record { store = box .store; tables = box .tables; values = box .values; regs = zeros })
 
 -- "Setting up gives 7 only for a lent table of the wrong size"
-abbrev pub setUpOf : ℕ → Reading → Box → Called
-setUpOf size (reading.Refused number place) box = refusedSetUp number place box
-setUpOf size (reading.Accepted cells) box =
+abbrev pub setUpOf : ℕ → Result → Box → Called
+setUpOf size (result.refuses number place) box = refusedSetUp number place box
+setUpOf size (result.gives cells) box =
     cond (negate (storeFits size (box .store))) (refusedSetUp 6 0 box)
     (cond (negate (tablesFit size (box .tables) (box .values))) (refusedSetUp 7 0 box)
-    (record { answer = Running; trace = []; box = boxOf (start size cells) }))
+    (record { answer = inState running; trace = []; box = boxOf (start size cells) }))
 
 unfoldable pub setUp : ℕ → List ℕ → Box → Called
 setUp size image box = setUpOf size (readOf image) box

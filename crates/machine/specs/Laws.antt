@@ -8,13 +8,13 @@ use mathlib.Core.Path.{_≡_}
 use lib.IntN.{negsuc, pos}
 use lib.ListN.{length}
 use Rattle.card.specs.Image.{readOf}
-use Rattle.card.specs.declared.reader.Reading.the-variants as reading
+use Rattle.card.specs.Result as result
 use Rattle.machine.specs.Book.{Entry, unlocks}
-use Rattle.machine.specs.Calls.{Box, Called, answerOf, boxOf, cardOf, countOf, runCall, setUp, stateOf, stepCall, storeFits}
+use Rattle.machine.specs.Calls.{Box, Called, answerOf, boxOf, cardOf, countOf, inState, refusedBy, runCall, setUp, stateOf, stepCall, storeFits}
 use Rattle.machine.specs.Cards.{card, create, down, loadc, lock, newmutex, newsema, unlock, yield}
 use Rattle.machine.specs.Order.{entryAt}
 use Rattle.machine.specs.Played.{Call, Played, callOf, played, runOn}
-use Rattle.machine.specs.Registers.{isFault, isRunning, stopped, zeros}
+use Rattle.machine.specs.Registers.{isFault, isRunning, running, stopped, zeros}
 use Rattle.machine.specs.Runner.{lent}
 use Rattle.machine.specs.Size.{full, shared, storeSize, tablesSize, valuesSize}
 use Rattle.machine.specs.State.{State, semaphoreCount, start, withRegs}
@@ -22,7 +22,6 @@ use Rattle.machine.specs.Step.{carried, run}
 use Rattle.machine.specs.Step as steps
 use Rattle.machine.specs.Tables.{Tables, atMutex, atSemaphore, ownerOf, queue}
 use Rattle.machine.specs.WellFormed.{wellFormed}
-use Rattle.machine.specs.declared.answers.Answer.the-variants.{Refused, Running}
 
 -- a box that numbers 6 and 7 let through: its store fits, and it is well formed
 pub record Sound (size : ℕ) (box : Box) : Type 0 where
@@ -39,12 +38,12 @@ abbrev pub SetUpForms : Type 0
 SetUpForms =
     (size : ℕ) (image : List ℕ) (cells : ℕ) (box : Box) →
     1 ≤ size →
-    readOf image ≡ reading.Accepted cells →
+    readOf image ≡ result.gives cells →
     cells ≤ shared size →
     length (box .store) ≡ storeSize size →
     length (box .tables) ≡ tablesSize size →
     length (box .values) ≡ valuesSize size →
-    (setUp size image box ≡ record { answer = Running; trace = []; box = boxOf (start size cells) })
+    (setUp size image box ≡ record { answer = inState running; trace = []; box = boxOf (start size cells) })
     × Sound size (setUp size image box .box)
 
 -- "Faults 20 up mark the machine faulted and change no cell, thread or queue": an instruction is carried out, which is one entry, or nothing is
@@ -59,7 +58,7 @@ FaultKeeps =
 abbrev pub FaultNumbers : Type 0
 FaultNumbers =
     (size : ℕ) (image : List ℕ) (cells : ℕ) (box : Box) (number : ℕ) →
-    readOf image ≡ reading.Accepted cells →
+    readOf image ≡ result.gives cells →
     Sound size box →
     isRunning (box .regs) ≡ true →
     carried size (cardOf image) (stateOf size box)
@@ -70,14 +69,14 @@ FaultNumbers =
 abbrev pub RefusedKeeps : Type 0
 RefusedKeeps =
     (size : ℕ) (call : Call) (box : Box) (number place : ℕ) →
-    callOf size call box .answer ≡ Refused number place →
+    callOf size call box .answer ≡ refusedBy number place →
     (callOf size call box .box ≡ box) × (callOf size call box .trace ≡ [])
 
 -- "a refused set-up gives all registers 0, halted", and alters nothing else
 abbrev pub RefusedSetUp : Type 0
 RefusedSetUp =
     (size : ℕ) (image : List ℕ) (box : Box) (number place : ℕ) →
-    setUp size image box .answer ≡ Refused number place →
+    setUp size image box .answer ≡ refusedBy number place →
     (setUp size image box .box ≡ record { store = box .store; tables = box .tables; values = box .values; regs = zeros })
     × (setUp size image box .trace ≡ [])
 
@@ -113,7 +112,7 @@ RunCounts = (size : ℕ) (words : List ℕ) (s : State) (m : ℕ) → Counted si
 -- the same of the calls, for every input: a refused one counts 0, and doesn't answer that the machine is running
 pub record CallCounted (size : ℕ) (image : List ℕ) (box : Box) (m : ℕ) : Type 0 where
   pub most : countOf (runCall size image m box) ≤ m
-  pub fewer : countOf (runCall size image m box) < m → runCall size image m box .answer ≢ Running
+  pub fewer : countOf (runCall size image m box) < m → runCall size image m box .answer ≢ inState running
   pub stays : isRunning (box .regs) ≡ false → (runCall size image m box .box ≡ box) × (runCall size image m box .trace ≡ [])
 
 abbrev pub CallCounts : Type 0
@@ -123,7 +122,7 @@ CallCounts = (size : ℕ) (image : List ℕ) (box : Box) (m : ℕ) → CallCount
 abbrev pub AnswersAgain : Type 0
 AnswersAgain =
     (size : ℕ) (image : List ℕ) (cells : ℕ) (box : Box) (m : ℕ) →
-    readOf image ≡ reading.Accepted cells →
+    readOf image ≡ result.gives cells →
     Sound size box →
     isRunning (box .regs) ≡ false →
     runCall size image m box ≡ record { answer = answerOf (box .regs); trace = []; box = box }
@@ -157,7 +156,7 @@ awaited = stateOf full (played full (runOn lowered 11 ∷ []) (setUp full lowere
 -- none of this is empty: an accepted card exists, and after a list of calls a mutex has an owner and somebody waits for it, who has it after the
 -- owner's unlock; on another card two wait for a semaphore, whose count says so
 pub record NotEmpty : Type 0 where
-  pub accepted : readOf contended ≡ reading.Accepted 1
+  pub accepted : readOf contended ≡ result.gives 1
   pub owner : ownerOf between 0 ≡ 0
   pub waiters : queue between (atMutex 0) ≡ 1 ∷ []
   pub released : entryAt (contention .trace) 9 ≡ record { thread = 0; event = unlocks 0 }

@@ -5,13 +5,11 @@ use mathlib.Core.Logic.{_⊎_, _≢_}
 use mathlib.Core.Path.{_≡_}
 use lib.ListN.{length}
 use Rattle.card.specs.Image.{readOf}
-use Rattle.card.specs.declared.reader.Reading.the-variants as reading
+use Rattle.card.specs.Result as result
 use Rattle.machine.specs.Book.{Entry}
-use Rattle.machine.specs.Calls.{Box, Called, runCall, setUp, stepCall}
+use Rattle.machine.specs.Calls.{Box, Called, Report, refusedBy, runCall, setUp, stepCall}
 use Rattle.machine.specs.Lists.{Each}
 use Rattle.machine.specs.Size.{full, shared, storeSize, tablesSize, valuesSize}
-use Rattle.machine.specs.declared.answers.Answer.{Answer}
-use Rattle.machine.specs.declared.answers.Answer.the-variants.{Refused}
 
 -- a call of the list, with its image
 pub data Call : Type 0 where
@@ -29,11 +27,11 @@ callOf size (runOn image m) box = runCall size image m box
 -- "Its image is the card's, or one refused by 1 to 5"
 abbrev pub Fitting : List ℕ → Call → Type 0
 Fitting card call =
-    (imageOf call ≡ card) ⊎ ((number : ℕ) × (place : ℕ) × (readOf (imageOf call) ≡ reading.Refused number place))
+    (imageOf call ≡ card) ⊎ ((number : ℕ) × (place : ℕ) × (readOf (imageOf call) ≡ result.refuses number place))
 
 -- what a list of calls gives: all answers, all that was carried out, and the box at the end
 pub record Played : Type 0 where
-  pub answers : List Answer
+  pub answers : List Report
   pub trace : List Entry
   pub box : Box
 
@@ -46,8 +44,8 @@ played size (call ∷ rest) box =
     record { answers = one .answer ∷ more .answers; trace = one .trace ++ more .trace; box = more .box }
 
 -- "no call gets 7"
-abbrev pub NotDamaged : Answer → Type 0
-NotDamaged answer = (place : ℕ) → answer ≢ Refused 7 place
+abbrev pub NotDamaged : Report → Type 0
+NotDamaged answer = (place : ℕ) → answer ≢ refusedBy 7 place
 
 -- something holds of a card, a list of calls and the box that set-up leaves
 abbrev pub Holds : Type 1
@@ -58,7 +56,7 @@ Holds = List ℕ → List Call → Box → Type 0
 abbrev pub AfterCalls : ℕ → Holds → Type 0
 AfterCalls size P =
     (card : List ℕ) (cells : ℕ) (lent : Box) (calls : List Call) →
-    readOf card ≡ reading.Accepted cells →
+    readOf card ≡ result.gives cells →
     cells ≤ shared size →
     length (lent .store) ≡ storeSize size →
     length (lent .tables) ≡ tablesSize size →
@@ -70,7 +68,7 @@ AfterCalls size P =
 abbrev pub InPaperBox : Holds → Type 0
 InPaperBox P =
     (card : List ℕ) (cells : ℕ) (lent : Box) (calls : List Call) →
-    readOf card ≡ reading.Accepted cells →
+    readOf card ≡ result.gives cells →
     length (lent .store) ≡ 8192 →
     length (lent .tables) ≡ tablesSize full →
     length (lent .values) ≡ 64 →

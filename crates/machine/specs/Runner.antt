@@ -1,18 +1,16 @@
 -- "The runner": the line that it prints, byte for byte, and the whole runner from its input to that line.
 use Prim.Native.Nat.{ℕ}
-use mathlib.Core.Bool.{Bool, true, false, cond}
+use mathlib.Core.Bool.{Bool, cond}
 use mathlib.Core.List.{List, [], _∷_}
 use lib.Dec.{eqb}
 use lib.IntN.{pos}
 use lib.ListN.{getD, replicate, take}
 use Rattle.text.specs.Decimal.{decimal, signed}
 use Rattle.text.specs.Lines.{line}
-use Rattle.machine.specs.Calls.{Box, Called, countOf, runCall, setUp, stateOf}
-use Rattle.machine.specs.Registers.{zeros}
+use Rattle.machine.specs.Calls.{Box, Called, Report, countOf, refusedState, runCall, setUp, stateOf}
+use Rattle.machine.specs.Registers.{faulted, halted, running, stuck, zeros}
 use Rattle.machine.specs.Size.{storeSize, tablesSize, valuesSize}
 use Rattle.machine.specs.Tables.{ended, placeOf}
-use Rattle.machine.specs.declared.answers.Answer.{Answer}
-use Rattle.machine.specs.declared.answers.Answer.the-variants.{Halted, Running, Stuck, Faulted, Refused}
 
 -- `halted`
 abbrev pub haltedWord : List ℕ
@@ -43,14 +41,19 @@ abbrev pub resultOf : ℕ → Box → List ℕ
 resultOf size box =
     cond (eqb (placeOf (stateOf size box .tables) 0) ended) (signed (getD (box .values) 0 (pos 0))) noResult
 
+-- `fault NO THREAD PC STEPS`
+abbrev pub faultLine : Report → ℕ → ℕ → List ℕ
+faultLine answer thread steps =
+    line faultWord (decimal (answer .number) ∷ decimal thread ∷ decimal (answer .place) ∷ decimal steps ∷ [])
+
 -- "prints one line: `halted STEPS RESULT` .., `stuck STEPS`, `fault NO THREAD PC STEPS`, `running STEPS`, or `refused NO PLACE`"
-abbrev pub answerLine : ℕ → Answer → ℕ → Box → List ℕ
-answerLine size Halted steps box = line haltedWord (decimal steps ∷ resultOf size box ∷ [])
-answerLine size Stuck steps box = line stuckWord (decimal steps ∷ [])
-answerLine size (Faulted number place) steps box =
-    line faultWord (decimal number ∷ decimal (box .regs .thread) ∷ decimal place ∷ decimal steps ∷ [])
-answerLine size Running steps box = line runningWord (decimal steps ∷ [])
-answerLine size (Refused number place) steps box = line refusedWord (decimal number ∷ decimal place ∷ [])
+abbrev pub answerLine : ℕ → Report → ℕ → Box → List ℕ
+answerLine size answer steps box =
+    cond (eqb (answer .state) halted) (line haltedWord (decimal steps ∷ resultOf size box ∷ []))
+    (cond (eqb (answer .state) stuck) (line stuckWord (decimal steps ∷ []))
+    (cond (eqb (answer .state) faulted) (faultLine answer (box .regs .thread) steps)
+    (cond (eqb (answer .state) running) (line runningWord (decimal steps ∷ []))
+    (line refusedWord (decimal (answer .number) ∷ decimal (answer .place) ∷ [])))))
 
 -- the line of a call's result
 unfoldable pub lineOf : ℕ → Called → List ℕ
@@ -77,12 +80,8 @@ lent size =
       regs = zeros;
     }
 
-abbrev pub isRefused : Answer → Bool
-isRefused Halted = false
-isRefused Running = false
-isRefused Stuck = false
-isRefused (Faulted number place) = false
-isRefused (Refused number place) = true
+abbrev pub isRefused : Report → Bool
+isRefused answer = eqb (answer .state) refusedState
 
 -- setting up in a lent box and, where that is not refused, the run
 unfoldable pub runnerIn : ℕ → List ℕ → Box → Called

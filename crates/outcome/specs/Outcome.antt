@@ -3,7 +3,7 @@ use Prim.Native.Nat.{ℕ}
 use mathlib.Core.List.{List}
 use mathlib.Core.Path.{_≡_}
 use lib.IntN.{ℤ}
-use Rattle.machine.specs.Calls.{Called, answerOf, countOf}
+use Rattle.machine.specs.Calls.{Called, answerOf, countOf, told}
 use Rattle.machine.specs.declared.answers.Answer.the-variants.{Refused}
 use Rattle.machine.specs.declared.registers.Registers.{Registers}
 use Rattle.outcome.specs.declared.Outcome.{Outcome}
@@ -13,11 +13,14 @@ abbrev pub refusal : ℕ → ℕ → Registers → Outcome
 refusal number place r = record { answer = Refused number place; count = 0; registers = r }
 
 -- what a call gives that was not refused
-abbrev pub outcomeOf : Registers → ℕ → Outcome
-outcomeOf r count = record { answer = answerOf r; count = count; registers = r }
+pub record Ends (r : Registers) (count : ℕ) (outcome : Outcome) : Type 0 where
+  pub answered : told (outcome .answer) ≡ answerOf r
+  pub counted : outcome .count ≡ count
+  pub registers : outcome .registers ≡ r
 
+-- the promise of a call
 pub record Gives (called : Called) (outcome : Outcome) (store : List ℤ) (tables : List ℕ) (values : List ℤ) : Type 0 where
-  pub answered : outcome .answer ≡ called .answer
+  pub answered : told (outcome .answer) ≡ called .answer
   pub counted : outcome .count ≡ countOf called
   pub registers : outcome .registers ≡ called .box .regs
   pub in-store : store ≡ called .box .store

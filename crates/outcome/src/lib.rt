@@ -1,7 +1,7 @@
 // What a call gives back: its answer, the number of instructions carried out, and the registers. Inner: the public calls make it.
 ghost use mathlib.Core.Path.{_≡_};
-ghost use Rattle.outcome.specs.Outcome.{outcomeOf, refusal};
-ghost use Rattle.machine.specs.Calls.{answerOf};
+ghost use Rattle.outcome.specs.Outcome.{Ends, refusal};
+ghost use Rattle.machine.specs.Calls.{answerOf, told};
 ghost use Rattle.machine.specs.Registers.{zeros};
 use machine::Answer;
 use machine::Registers;
@@ -44,7 +44,7 @@ pub fn no_registers() -> Registers
 
 // The state of a machine as a call answers it.
 pub fn answer_of(r: Registers) -> Answer
-    ensures { λ a. ⌜ a ≡ answerOf r ⌝ }
+    ensures { λ a. ⌜ told a ≡ answerOf r ⌝ }
 {
     let state = r.state;
     if state == 1 {
@@ -64,7 +64,7 @@ pub fn answer_of(r: Registers) -> Answer
 
 // A call that was not refused.
 pub fn ended(registers: Registers, count: usize) -> Outcome
-    ensures { λ o. ⌜ o ≡ outcomeOf registers count ⌝ }
+    ensures { λ o. ⌜ Ends registers count o ⌝ }
 {
     Outcome {
         answer: answer_of(registers),

@@ -8,10 +8,9 @@ use lib.Seq.{drop-cons, getD-drop, take-at}
 use Rattle.instruction.specs.Bytes.{halfAt, wordAt, halfBytes, wordBytes}
 use Rattle.card.specs.Code.{firstBad, wordsOf}
 use Rattle.card.specs.Image.{cellsOf, codeOf, countOf, followingOf, imageSize, lastOf, readOf}
+use Rattle.card.specs.Result.{gives}
 use Rattle.writer.specs.Writing.{imageOf, wordsBytes, writeOf}
-use Rattle.card.specs.declared.reader.Reading.the-variants.{Accepted}
 use Rattle.card.specs.declared.scan.Scan.the-variants.{Fine}
-use Rattle.writer.specs.declared.Writing.the-variants.{Written}
 use Rattle.writer.specs.RoundTrip.{Each, WrittenIsRead, ReadIsWritten}
 use Rattle.card.proofs.Header.{Accepts, InRange, accepted, accepts, code-part}
 use Rattle.writer.proofs.Success.{Writes, succeeds, writes}
@@ -114,9 +113,9 @@ written-is-read cells size list buffer h e = again _ (take-at (imageOf cells lis
     w : Writes cells list (length buffer) size
     w = writes cells list (length buffer) size e
 
-    again : (image : List ℕ) → image ≡ imageOf cells list → (readOf image ≡ Accepted cells) × (wordsOf (codeOf image) ≡ list)
+    again : (image : List ℕ) → image ≡ imageOf cells list → (readOf image ≡ gives cells) × (wordsOf (codeOf image) ≡ list)
     again image is =
-        let read : readOf image ≡ Accepted cells = rw is (accepted (imageOf cells list) cells (accept-image cells list (w .globals) (w .count) h (w .good))) in
+        let read : readOf image ≡ gives cells = rw is (accepted (imageOf cells list) cells (accept-image cells list (w .globals) (w .count) h (w .good))) in
         (read, rw (code-part image cells read, is) (words-read list h))
 
 pub read-is-written : ReadIsWritten
@@ -127,7 +126,7 @@ read-is-written cells image buffer h room e =
     let code : length (drop 9 image) ≡ 4 * countOf image = omega (arith, length-drop 9 image, a .long .follows, a .sized .exact) in
     let n : length list ≡ countOf image = count (drop 9 image) (countOf image) code in
     let size : length image ≡ imageSize (length list) = omega (arith, a .long .follows, a .sized .exact) in
-    let answer : writeOf cells list (length buffer) ≡ Written (length image) =
+    let answer : writeOf cells list (length buffer) ≡ gives (length image) =
     succeeds cells list (length buffer) (length image)
     (record {
       globals = rw (← (a .globals)) (a .sized .cells);

@@ -5,9 +5,8 @@ use mathlib.Core.Path.{_≡_}
 use lib.ListN.{length, getD, take, drop}
 use Rattle.card.specs.Code.{wordsOf}
 use Rattle.card.specs.Image.{codeOf, readOf}
+use Rattle.card.specs.Result.{gives}
 use Rattle.writer.specs.Writing.{bufferOf, writeOf}
-use Rattle.card.specs.declared.reader.Reading.the-variants.{Accepted}
-use Rattle.writer.specs.declared.Writing.the-variants.{Written}
 
 -- each number of a list is below a bound: 256 for the bytes of an image, 2^32 for words, which the slices' types ensure
 abbrev pub Each : ℕ → List ℕ → Type 0
@@ -17,15 +16,15 @@ Each bound l = (i : ℕ) → getD l i 0 < bound
 abbrev pub WrittenIsRead : Type 0
 WrittenIsRead =
     (cells size : ℕ) (list buffer : List ℕ) → Each 4294967296 list →
-    writeOf cells list (length buffer) ≡ Written size →
-    let image = take size (bufferOf (Written size) cells list buffer) in
-    (readOf image ≡ Accepted cells) × (wordsOf (codeOf image) ≡ list)
+    writeOf cells list (length buffer) ≡ gives size →
+    let image = take size (bufferOf (gives size) cells list buffer) in
+    (readOf image ≡ gives cells) × (wordsOf (codeOf image) ≡ list)
 
 -- for every image that the reader accepts, the writer, given its global cells and its instructions, writes that image, byte for byte
 abbrev pub ReadIsWritten : Type 0
 ReadIsWritten =
     (cells : ℕ) (image buffer : List ℕ) → Each 256 image → length image ≤ length buffer →
-    readOf image ≡ Accepted cells →
+    readOf image ≡ gives cells →
     let list = wordsOf (codeOf image) in
     let answer = writeOf cells list (length buffer) in
-    (answer ≡ Written (length image)) × (bufferOf answer cells list buffer ≡ image ++ drop (length image) buffer)
+    (answer ≡ gives (length image)) × (bufferOf answer cells list buffer ≡ image ++ drop (length image) buffer)

@@ -8,6 +8,7 @@ use lib.ListN.{length, drop}
 use Rattle.instruction.specs.Bytes.{halfBytes, wordBytes}
 use Rattle.card.specs.Code.{firstBad}
 use Rattle.card.specs.Image.{imageSize, lastOf, outOfRange}
+use Rattle.card.specs.Result.{Result, gives, refuses}
 use Rattle.card.specs.declared.scan.Scan.{Scan}
 use Rattle.card.specs.declared.scan.Scan.the-variants.{Fine, Bad}
 use Rattle.writer.specs.declared.Writing.{Writing}
@@ -27,24 +28,29 @@ abbrev pub imageOf : ℕ → List ℕ → List ℕ
 imageOf cells list = headerOf cells (length list) ++ wordsBytes list
 
 -- "then the list (place: index)"
-abbrev pub afterList : Scan → Writing → Writing
-afterList (Bad number index) rest = Refused number index
+abbrev pub afterList : Scan → Result → Result
+afterList (Bad number index) rest = refuses number index
 afterList Fine rest = rest
 
--- the answer, for a buffer with so much room. Number 8: "writer's buffer under 9 + 4n bytes"
-unfoldable pub writeOf : ℕ → List ℕ → ℕ → Writing
+-- the writer, which gives the image's size, for a buffer with so much room. Number 8: "writer's buffer under 9 + 4n bytes"
+unfoldable pub writeOf : ℕ → List ℕ → ℕ → Result
 writeOf cells list room =
-    cond (outOfRange cells || outOfRange (length list)) (Refused 3 5)
+    cond (outOfRange cells || outOfRange (length list)) (refuses 3 5)
     (afterList (firstBad (lastOf (length list)) 0 list)
-    (cond (ltb room (imageSize (length list))) (Refused 8 0)
-    (Written (imageSize (length list)))))
+    (cond (ltb room (imageSize (length list))) (refuses 8 0)
+    (gives (imageSize (length list)))))
 
 -- the buffer afterwards: the image and the old bytes past it, or, after a refusal, what it was
-abbrev pub bufferOf : Writing → ℕ → List ℕ → List ℕ → List ℕ
-bufferOf (Written size) cells list buffer = imageOf cells list ++ drop size buffer
-bufferOf (Refused number place) cells list buffer = buffer
+abbrev pub bufferOf : Result → ℕ → List ℕ → List ℕ → List ℕ
+bufferOf (gives size) cells list buffer = imageOf cells list ++ drop size buffer
+bufferOf (refuses number place) cells list buffer = buffer
+
+-- the number, place and size of each case of the writer's enum
+abbrev pub told : Writing → Result
+told (Written size) = gives size
+told (Refused number place) = refuses number place
 
 -- the writer's promise: its answer, and the buffer that it leaves
 pub record Wrote (cells : ℕ) (list before : List ℕ) (answer : Writing) (after : List ℕ) : Type 0 where
-  pub answered : answer ≡ writeOf cells list (length before)
+  pub answered : told answer ≡ writeOf cells list (length before)
   pub left : after ≡ bufferOf (writeOf cells list (length before)) cells list before

@@ -1,4 +1,5 @@
 use mathlib.Core.Path.{sym, ap, _∙_}
+use Rattle.card.specs.Image.{told}
 use Rattle.outcome.specs.Outcome.{refusal}
 use Rattle.opening.proofs.SetUps.{misfit, misfit-tables, misfit-values, opened, unread}
 use borrow.Author.Needs.{needs}
@@ -40,7 +41,7 @@ refused-requires-2 c κs = search needs
 
 returns : tie.Need-returns
 returns c =
-    misfit _ _ _ _ _ _ _ (sym (c .before .before .before .before .before .before .read .ensures) ∙ c .before .before .before .before .cells .given .1) (c .before .before .if1 .taken) (c .refused2 .ensures ∙ ap (refusal 6 0) (c .before .no-registers2 .ensures))
+    misfit _ _ _ _ _ _ _ (sym (c .before .before .before .before .before .before .read .ensures) ∙ ap told (c .before .before .before .before .cells .given .1)) (c .before .before .if1 .taken) (c .refused2 .ensures ∙ ap (refusal 6 0) (c .before .no-registers2 .ensures))
 
 mul-if2 : tie.Need-mul-if2
 mul-if2 c = search needs
@@ -53,7 +54,7 @@ refused-requires-3 c κs = search needs
 
 returns-2 : tie.Need-returns-2
 returns-2 c =
-    misfit-tables _ _ _ _ _ _ _ (sym (c .before .before .before .before .before .before .before .read .ensures) ∙ c .before .before .before .before .before .cells .given .1) (c .before .before .before .if1 .left) (c .before .before .if2 .taken) (c .refused3 .ensures ∙ ap (refusal 7 0) (c .before .no-registers3 .ensures))
+    misfit-tables _ _ _ _ _ _ _ (sym (c .before .before .before .before .before .before .before .read .ensures) ∙ ap told (c .before .before .before .before .before .cells .given .1)) (c .before .before .before .if1 .left) (c .before .before .if2 .taken) (c .refused3 .ensures ∙ ap (refusal 7 0) (c .before .no-registers3 .ensures))
 
 mul-if3 : tie.Need-mul-if3
 mul-if3 c = search needs
@@ -66,7 +67,7 @@ refused-requires-4 c κs = search needs
 
 returns-3 : tie.Need-returns-3
 returns-3 c =
-    misfit-values _ _ _ _ _ _ _ (sym (c .before .before .before .before .before .before .before .before .read .ensures) ∙ c .before .before .before .before .before .before .cells .given .1) (c .before .before .before .before .if1 .left) (c .before .before .before .if2 .left) (c .before .before .if3 .taken) (c .refused4 .ensures ∙ ap (refusal 7 0) (c .before .no-registers4 .ensures))
+    misfit-values _ _ _ _ _ _ _ (sym (c .before .before .before .before .before .before .before .before .read .ensures) ∙ ap told (c .before .before .before .before .before .before .cells .given .1)) (c .before .before .before .before .if1 .left) (c .before .before .before .if2 .left) (c .before .before .if3 .taken) (c .refused4 .ensures ∙ ap (refusal 7 0) (c .before .no-registers4 .ensures))
 
 cast-start : tie.Need-cast-start
 cast-start c = search needs
@@ -76,7 +77,7 @@ start-requires c κs = search needs
 
 returns-4 : tie.Need-returns-4
 returns-4 c =
-    unread _ _ _ _ _ _ _ _ (sym (c .before .before .before .before .before .read .ensures) ∙ c .before .before .before .number .given .1) (c .refused .ensures ∙ ap (refusal _ _) (c .before .no-registers .ensures))
+    unread _ _ _ _ _ _ _ _ (sym (c .before .before .before .before .before .read .ensures) ∙ ap told (c .before .before .before .number .given .1)) (c .refused .ensures ∙ ap (refusal _ _) (c .before .no-registers .ensures))
 
 same-length : tie.Need-same-length
 same-length c = search needs
@@ -89,7 +90,7 @@ same-length-3 c = search needs
 
 returns-5 : tie.Need-returns-5
 returns-5 c =
-    opened _ _ _ _ _ _ _ _ _ _ (sym (c .before .before .before .before .before .before .before .before .before .before .before .before .before .before .read .ensures) ∙ c .before .before .before .before .before .before .before .before .before .before .before .before .cells .given .1) (c .before .before .before .before .before .before .before .before .before .before .if1 .left) (c .before .before .before .before .before .before .before .before .before .if2 .left) (c .before .before .before .before .before .before .before .before .if3 .left) (c .before .before .before .before .start .ensures)
+    opened _ _ _ _ _ _ _ _ _ _ (sym (c .before .before .before .before .before .before .before .before .before .before .before .before .before .before .read .ensures) ∙ ap told (c .before .before .before .before .before .before .before .before .before .before .before .before .cells .given .1)) (c .before .before .before .before .before .before .before .before .before .before .if1 .left) (c .before .before .before .before .before .before .before .before .before .if2 .left) (c .before .before .before .before .before .before .before .before .if3 .left) (c .before .before .before .before .start .ensures)
 
 pub set-up-box-spec : {M : Type 1} → statement M
 set-up-box-spec =

@@ -1,4 +1,5 @@
 -- `outcome::ended` meets its contract. Assumes nothing.
+use mathlib.Core.Path.{refl}
 use borrow.Author.Needs.{needs}
 use Rattle.outcome.proofs.ended.Statement.{statement}
 use Rattle.outcome.proofs.ended.Tie as tie
@@ -7,7 +8,7 @@ answer-of-requires : tie.Need-answer-of-requires
 answer-of-requires c κs = search needs
 
 returns : tie.Need-returns
-returns c = rw (c .answer-of .ensures)
+returns c = record { answered = c .answer-of .ensures; counted = refl; registers = refl }
 
 pub ended-spec : {M : Type 1} → statement M
 ended-spec = tie.close (tie.spec answer-of-requires returns)

@@ -13,6 +13,7 @@ use mir.Facts.{toZ-ofZ}
 use Rattle.card.specs.Code.{firstBad}
 use Rattle.card.specs.Image.{lastOf, outOfRange}
 use Rattle.writer.specs.Writing.{Wrote, imageOf, writeOf}
+use Rattle.card.specs.Result.{gives, refuses}
 use Rattle.writer.specs.declared.Writing.the-variants.{Refused, Written}
 use Rattle.card.proofs.Header.{in-range}
 use Rattle.writer.proofs.Stores.{whole}
@@ -20,11 +21,11 @@ use Rattle.writer.proofs.write.Statement.{statement}
 use Rattle.writer.proofs.write.Tie as tie
 
 -- a refusal leaves the buffer
-keeps : (cells : ℕ) (list before : List ℕ) (number place : ℕ) → Refused number place ≡ writeOf cells list (length before) → Wrote cells list before (Refused number place) before
+keeps : (cells : ℕ) (list before : List ℕ) (number place : ℕ) → refuses number place ≡ writeOf cells list (length before) → Wrote cells list before (Refused number place) before
 keeps cells list before number place e = record { answered = e; left = rw (← e) }
 
 -- success leaves the image and what was past it
-writes : (cells : ℕ) (list before : List ℕ) {after : List ℕ} {size : ℕ} → Written size ≡ writeOf cells list (length before) →
+writes : (cells : ℕ) (list before : List ℕ) {after : List ℕ} {size : ℕ} → gives size ≡ writeOf cells list (length before) →
     after ≡ imageOf cells list ++ drop size before → Wrote cells list before (Written size) after
 writes cells list before e b = record { answered = e; left = rw (← e) b }
 

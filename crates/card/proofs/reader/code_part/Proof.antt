@@ -1,12 +1,12 @@
 -- `card::reader::code_part` meets its contract. Assumes nothing.
 use Prim.Native.Nat.{ℕ, _≤_}
-use mathlib.Core.Path.{_≡_, refl, sym, _∙_}
+use mathlib.Core.Path.{_≡_, refl, sym, _∙_, ap}
 use mathlib.Core.List.{List}
 use native.Mathlib.Omega.{arith}
 use borrow.Author.Needs.{needs}
 use denote.Ref.{now}
 use lib.ListN.{length}
-use Rattle.card.specs.Image.{codeOf, readOf}
+use Rattle.card.specs.Image.{codeOf, readOf, told}
 use Rattle.card.specs.declared.reader.Reading.{Reading}
 use Rattle.card.specs.declared.reader.Reading.the-variants.{Accepted}
 use Rattle.card.proofs.Header.{accepts}
@@ -15,9 +15,9 @@ use Rattle.card.proofs.reader.code_part.Statement.{statement}
 use Rattle.card.proofs.reader.code_part.Tie as tie
 
 -- an accepted image has its header
-nine : (image : List ℕ) {r : Reading} {cells : ℕ} → r ≡ readOf image → r ≡ Accepted cells → 9 ≤ length image
-nine image e a =
-    let l = accepts image _ (sym e ∙ a) .long in
+nine : (image : List ℕ) (r : Reading) {cells : ℕ} → told r ≡ readOf image → r ≡ Accepted cells → 9 ≤ length image
+nine image r e a =
+    let l = accepts image _ (sym e ∙ ap told a) .long in
     omega (arith, l .follows, l .least)
 
 read-requires : tie.Need-read-requires
@@ -27,10 +27,10 @@ enum-told : tie.Need-enum-told
 enum-told c = search needs
 
 sub-result : tie.Need-sub-result
-sub-result c = nine _ (c .before .before .read .ensures) (c .enum-told .given .1)
+sub-result c = nine _ _ (c .before .before .read .ensures) (c .enum-told .given .1)
 
 part-result-start : tie.Need-part-result-start
-part-result-start c = nine _ (c .before .before .read .ensures) (c .enum-told .given .1)
+part-result-start c = nine _ _ (c .before .before .read .ensures) (c .enum-told .given .1)
 
 part-result-end : tie.Need-part-result-end
 part-result-end c = search needs

@@ -1,8 +1,9 @@
 -- `cma::calls::run_box` meets its contract. Assumes nothing.
-use mathlib.Core.Path.{sym, _∙_}
+use mathlib.Core.Path.{sym, ap, _∙_}
 use borrow.Author.Needs.{needs}
 use borrow.Author.Tests.{eq-eqb, not-false, not-true}
-use Rattle.cma.proofs.Called.{carded, misfit, ran, unformed, unread}
+use Rattle.card.specs.Image.{told}
+use Rattle.cma.proofs.Called.{carded, header, its-code, misfit, ran, unformed, unread}
 use Rattle.cma.proofs.calls.run_box.Statement.{statement}
 use Rattle.cma.proofs.calls.run_box.Tie as tie
 
@@ -28,7 +29,7 @@ refused-requires-2 : tie.Need-refused-requires-2
 refused-requires-2 c κs = search needs
 
 returns : tie.Need-returns
-returns c = misfit _ _ _ _ _ _ _ _ _ (sym (c .before .before .before .before .read .ensures) ∙ c .before .before .enum-told .given .1) (c .before .if1 .taken) (c .refused2 .ensures)
+returns c = misfit _ _ _ _ _ _ _ _ _ (sym (c .before .before .before .before .read .ensures) ∙ ap told (c .before .before .enum-told .given .1)) (c .before .if1 .taken) (c .refused2 .ensures)
 
 well-formed-requires : tie.Need-well-formed-requires
 well-formed-requires c κs = search needs
@@ -43,22 +44,30 @@ same-length-2 : tie.Need-same-length-2
 same-length-2 c = search needs
 
 returns-2 : tie.Need-returns-2
-returns-2 c = unformed _ _ _ _ _ _ _ _ _ (sym (c .before .before .before .before .before .before .before .before .read .ensures) ∙ c .before .before .before .before .before .before .enum-told .given .1) (c .before .before .before .before .before .if1 .left) (sym (c .before .before .well-formed .ensures) ∙ not-true (c .before .before .well-formed .result) (c .before .if2 .taken)) (c .refused3 .ensures)
+returns-2 c =
+    unformed _ _ _ _ _ _ _ _ _ (sym (c .before .before .before .before .before .before .before .before .read .ensures) ∙ ap told (c .before .before .before .before .before .before .enum-told .given .1)) (c .before .before .before .before .before .if1 .left)
+    (sym (c .before .before .well-formed .ensures) ∙ not-true (c .before .before .well-formed .result) (c .before .if2 .taken)) (c .refused3 .ensures)
 
-code-part-requires : tie.Need-code-part-requires
-code-part-requires c κs = search needs
+sub-code : tie.Need-sub-code
+sub-code c = header _ _ (sym (c .before .before .before .before .before .before .before .read .ensures) ∙ ap told (c .before .before .before .before .before .enum-told .given .1))
+
+part-code-start : tie.Need-part-code-start
+part-code-start c = header _ _ (sym (c .before .before .before .before .before .before .before .read .ensures) ∙ ap told (c .before .before .before .before .before .enum-told .given .1))
+
+part-code-end : tie.Need-part-code-end
+part-code-end c = search needs
 
 run-requires : tie.Need-run-requires
 run-requires c κs =
-    let read = sym (c .before .before .before .before .before .before .before .before .before .before .before .read .ensures) ∙ c .before .before .before .before .before .before .before .before .before .enum-told .given .1 in
+    let read = sym (c .before .before .before .before .before .before .before .before .before .before .before .read .ensures) ∙ ap told (c .before .before .before .before .before .before .before .before .before .enum-told .given .1) in
     let formed = sym (c .before .before .before .before .before .well-formed .ensures) ∙ not-false (c .before .before .before .before .before .well-formed .result) (c .before .before .before .before .if2 .left) in
-    (carded _ _ _ read (c .before .before .before .code-part .ensures .bytes), (c .before .before .before .before .before .before .before .before .before .before .before .before .before .before .pre, record { store = eq-eqb _ _ (c .before .before .before .before .before .before .before .before .if1 .left); formed = formed }))
+    (carded _ _ _ read (its-code _ _ read), (c .before .before .before .before .before .before .before .before .before .before .before .before .before .before .pre, record { store = eq-eqb _ _ (c .before .before .before .before .before .before .before .before .if1 .left); formed = formed }))
 
 ended-requires : tie.Need-ended-requires
 ended-requires c κs = search needs
 
 returns-3 : tie.Need-returns-3
-returns-3 c = unread _ _ _ _ _ _ _ _ _ _ (sym (c .before .before .before .before .read .ensures) ∙ c .before .before .number .given .1) (c .refused .ensures)
+returns-3 c = unread _ _ _ _ _ _ _ _ _ _ (sym (c .before .before .before .before .read .ensures) ∙ ap told (c .before .before .number .given .1)) (c .refused .ensures)
 
 same-length-3 : tie.Need-same-length-3
 same-length-3 c = search needs
@@ -71,9 +80,9 @@ same-length-5 c = search needs
 
 returns-4 : tie.Need-returns-4
 returns-4 c =
-    let read = sym (c .before .before .before .before .before .before .before .before .before .before .before .before .before .before .before .before .before .read .ensures) ∙ c .before .before .before .before .before .before .before .before .before .before .before .before .before .before .before .enum-told .given .1 in
+    let read = sym (c .before .before .before .before .before .before .before .before .before .before .before .before .before .before .before .before .before .read .ensures) ∙ ap told (c .before .before .before .before .before .before .before .before .before .before .before .before .before .before .before .enum-told .given .1) in
     let formed = sym (c .before .before .before .before .before .before .before .before .before .before .before .well-formed .ensures) ∙ not-false (c .before .before .before .before .before .before .before .before .before .before .before .well-formed .result) (c .before .before .before .before .before .before .before .before .before .before .if2 .left) in
-    ran _ _ _ _ _ _ _ _ _ _ _ _ _ _ read (c .before .before .before .before .before .before .before .before .before .before .before .before .before .before .if1 .left) formed (c .before .before .before .before .before .before .before .before .before .code-part .ensures .bytes) (c .before .before .before .before .before .run .ensures) (c .ended .ensures)
+    ran _ _ _ _ _ _ _ _ _ _ _ _ _ _ read (c .before .before .before .before .before .before .before .before .before .before .before .before .before .before .if1 .left) formed (its-code _ _ read) (c .before .before .before .before .before .run .ensures) (c .ended .ensures)
 
 pub run-box-spec : {M : Type 1} → statement M
 run-box-spec =
@@ -92,7 +101,9 @@ run-box-spec =
     same-length
     same-length-2
     returns-2
-    code-part-requires
+    sub-code
+    part-code-start
+    part-code-end
     run-requires
     ended-requires
     returns-3

@@ -1,7 +1,7 @@
 -- `leprahoon::cards::leprahoon_line` meets its contract. Assumes nothing.
 use mathlib.Core.Path.{ap, _∙_}
 use borrow.Author.Needs.{needs}
-use Rattle.leprahoon.specs.Lists.{lineLength}
+use Rattle.card.specs.Result.{valueOf}
 use Rattle.leprahoon.proofs.cards.leprahoon_line.Statement.{statement}
 use Rattle.leprahoon.proofs.cards.leprahoon_line.Tie as tie
 
@@ -18,8 +18,8 @@ returns : tie.Need-returns
 returns c =
     let p = c .before .before .before .runner-line .ensures in
     record {
-      answered = c .length-of .ensures ∙ ap lineLength (p .answered);
-      left = rw (← p .answered) (p .left);
+      answered = c .length-of .ensures ∙ ap valueOf (p .answered);
+      left = p .left;
     }
 
 pub leprahoon-line-spec : {M : Type 1} → statement M

@@ -1,7 +1,7 @@
 -- `leprahoon::cards::leprahoon_write` meets its contract. Assumes nothing.
 use mathlib.Core.Path.{ap, _∙_}
 use borrow.Author.Needs.{needs}
-use Rattle.leprahoon.specs.Lists.{writeList}
+use Rattle.card.specs.Result.{reportOf}
 use Rattle.leprahoon.proofs.cards.leprahoon_write.Statement.{statement}
 use Rattle.leprahoon.proofs.cards.leprahoon_write.Tie as tie
 
@@ -17,7 +17,7 @@ same-length c = search needs
 returns : tie.Need-returns
 returns c =
     record {
-      reported = c .list-of-writing .ensures ∙ ap writeList (c .before .before .before .write .ensures .answered);
+      reported = c .list-of-writing .ensures ∙ ap reportOf (c .before .before .before .write .ensures .answered);
       left = c .before .before .before .write .ensures .left;
     }
 

@@ -1,7 +1,7 @@
 -- `leprahoon::texts::leprahoon_import` meets its contract. Assumes nothing.
 use mathlib.Core.Path.{ap, _∙_}
 use borrow.Author.Needs.{needs}
-use Rattle.leprahoon.specs.Lists.{importList}
+use Rattle.card.specs.Result.{reportOf}
 use Rattle.leprahoon.proofs.texts.leprahoon_import.Statement.{statement}
 use Rattle.leprahoon.proofs.texts.leprahoon_import.Tie as tie
 
@@ -17,7 +17,7 @@ same-length c = search needs
 returns : tie.Need-returns
 returns c =
     record {
-      reported = c .list-of-importing .ensures ∙ ap importList (c .before .before .before .import .ensures .answered);
+      reported = c .list-of-importing .ensures ∙ ap reportOf (c .before .before .before .import .ensures .answered);
       left = c .before .before .before .import .ensures .left;
     }
 

@@ -1,7 +1,7 @@
 -- `leprahoon::texts::leprahoon_list` meets its contract. Assumes nothing.
 use mathlib.Core.Path.{ap, _∙_}
 use borrow.Author.Needs.{needs}
-use Rattle.leprahoon.specs.Lists.{listingList}
+use Rattle.card.specs.Result.{reportOf}
 use Rattle.leprahoon.proofs.texts.leprahoon_list.Statement.{statement}
 use Rattle.leprahoon.proofs.texts.leprahoon_list.Tie as tie
 
@@ -17,7 +17,7 @@ same-length c = search needs
 returns : tie.Need-returns
 returns c =
     record {
-      reported = c .list-of-listing .ensures ∙ ap listingList (c .before .before .before .list-line .ensures .answered);
+      reported = c .list-of-listing .ensures ∙ ap reportOf (c .before .before .before .list-line .ensures .answered);
       left = c .before .before .before .list-line .ensures .left;
     }
 

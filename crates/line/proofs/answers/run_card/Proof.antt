@@ -1,6 +1,6 @@
 -- `line::answers::run_card` meets its contract. Assumes nothing.
 use borrow.Author.Needs.{needs}
-use Rattle.line.proofs.Runs.{goes-on, left-as, stops, told}
+use Rattle.line.proofs.Runs.{goes-on, left-as, stops, was-refused}
 use Rattle.line.proofs.answers.run_card.Statement.{statement}
 use Rattle.line.proofs.answers.run_card.Tie as tie
 
@@ -22,7 +22,7 @@ same-length-3 c = search needs
 returns : tie.Need-returns
 returns c =
     let g = c .before .before .before .before .before .before .set-up .ensures in
-    let e = told g (c .before .is-refused .ensures) (c .if1 .taken) in
+    let e = was-refused g (c .before .is-refused .ensures) (c .if1 .taken) in
     rw (stops _ _ _ e) g
 
 run-requires : tie.Need-run-requires
@@ -40,7 +40,7 @@ same-length-6 c = search needs
 returns-2 : tie.Need-returns-2
 returns-2 c =
     let g = c .before .before .before .before .before .before .before .before .before .before .before .before .before .before .before .set-up .ensures in
-    let e = told g (c .before .before .before .before .before .before .before .before .before .before .is-refused .ensures) (c .before .before .before .before .before .before .before .before .before .if1 .left) in
+    let e = was-refused g (c .before .before .before .before .before .before .before .before .before .before .is-refused .ensures) (c .before .before .before .before .before .before .before .before .before .if1 .left) in
     rw (goes-on _ _ _ e, ← left-as g) (c .before .before .before .before .run .ensures)
 
 pub run-card-spec : {M : Type 1} → statement M
