@@ -45,7 +45,8 @@ longest = refl
 
 -- number 1: "under 4 bytes, L wrong for the length, or L < 5"
 abbrev pub lengthWrong : List ℕ → Bool
-lengthWrong image = ltb (length image) 4 || (not (eqb (4 + followingOf image) (length image)) || ltb (followingOf image) 5)
+lengthWrong image = ltb (length image) 4
+    || (not (eqb (4 + followingOf image) (length image)) || ltb (followingOf image) 5)
 
 -- number 2: "version not 1"
 abbrev pub versionWrong : List ℕ → Bool
@@ -57,7 +58,8 @@ outOfRange x = ltb x 1 || ltb 4096 x
 
 -- number 3: "g or n out of range, or L ≠ 5 + 4n"
 abbrev pub sizesWrong : List ℕ → Bool
-sizesWrong image = outOfRange (cellsOf image) || (outOfRange (countOf image) || not (eqb (followingOf image) (5 + 4 * countOf image)))
+sizesWrong image = outOfRange (cellsOf image)
+    || (outOfRange (countOf image) || not (eqb (followingOf image) (5 + 4 * countOf image)))
 
 -- the number of a card's last instruction, n − 1, which a jump may reach
 abbrev pub lastOf : ℕ → ℤ

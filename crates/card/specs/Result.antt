@@ -1,5 +1,6 @@
--- What a function hands back, as the paper has it: a value, or a refusal "by number and place". In code each function has an enum for its answer;
--- a definition `told` beside each sets out which of these every case of that enum is, and the promises are stated with it.
+-- What a function hands back, as the paper has it: a value, or a refusal "by number and place". In code each function
+-- has an enum for its answer; a definition `told` beside each sets out which of these every case of that enum is, and
+-- the promises are stated with it.
 use Prim.Native.Nat.{ℕ}
 use mathlib.Core.List.{List, [], _∷_}
 

@@ -1,5 +1,5 @@
-// The card image: its reader and its code part.
-// The public functions are `read` and `code_part`, which take any input. The others are inner, for the writer and the machine.
+// The card image: its reader and its code part. The public functions are `read` and `code_part`, which take any
+// input. The others are inner, for the writer and the machine.
 mod fetching;
 mod reader;
 mod scan;

@@ -1,4 +1,5 @@
--- What the instructions on cells ask, and what they promise: the state that the definitions give, whatever else the machine holds.
+-- What the instructions on cells ask, and what they promise: the state that the definitions give, whatever else the
+-- machine holds.
 use Prim.Native.Nat.{ℕ, _*_, _<_, _≤_}
 use mathlib.Core.Bool.{cond}
 use mathlib.Core.List.{List}
@@ -57,14 +58,17 @@ Acts size i store tables r store′ tables′ q =
 
 abbrev pub ActsIn : ℕ → ℕ → Instruction → List ℤ → List ℕ → Registers → List ℤ → List ℕ → Registers → Type 0
 ActsIn size n i store tables r store′ tables′ q =
-    (values : List ℤ) → at store′ (tablesOf size tables′) values q ≡ after size n (at store (tablesOf size tables) values r) i
+    (values : List ℤ) → at store′ (tablesOf size tables′) values q
+    ≡ after size n (at store (tablesOf size tables) values r) i
 
 -- an instruction on cells, tables and values, for every card
-abbrev pub Changes : ℕ → Instruction → List ℤ → List ℕ → List ℤ → Registers → List ℤ → List ℕ → List ℤ → Registers → Type 0
+abbrev pub Changes : ℕ → Instruction → List ℤ → List ℕ → List ℤ → Registers →
+    List ℤ → List ℕ → List ℤ → Registers → Type 0
 Changes size i store tables values r store′ tables′ values′ q =
     (n : ℕ) → at store′ (tablesOf size tables′) values′ q ≡ after size n (at store (tablesOf size tables) values r) i
 
-abbrev pub ChangesIn : ℕ → ℕ → Instruction → List ℤ → List ℕ → List ℤ → Registers → List ℤ → List ℕ → List ℤ → Registers → Type 0
+abbrev pub ChangesIn : ℕ → ℕ → Instruction → List ℤ → List ℕ → List ℤ → Registers →
+    List ℤ → List ℕ → List ℤ → Registers → Type 0
 ChangesIn size n i store tables values r store′ tables′ values′ q =
     at store′ (tablesOf size tables′) values′ q ≡ after size n (at store (tablesOf size tables) values r) i
 

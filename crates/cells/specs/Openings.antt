@@ -1,4 +1,5 @@
--- What an instruction finds that makes something: a number below its limit, with room for the thing or without, or no such number.
+-- What an instruction finds that makes something: a number below its limit, with room for the thing or without, or no
+-- such number.
 use Prim.Native.Nat.{ℕ}
 use mathlib.Core.Bool.{Bool, cond}
 use lib.Dec.{ltb}

@@ -1,5 +1,5 @@
-// One cell of the store, by its address or by its place on a thread's stack. A stack is taken as a part of the store: so the compiler knows its
-// start as one address, which stays while its thread runs.
+// One cell of the store, by its address or by its place on a thread's stack. A stack is taken as a part of the store:
+// so the compiler knows its start as one address, which stays while its thread runs.
 ghost use mathlib.Core.Path.{_≡_};
 ghost use Prim.Native.Nat.{_<_};
 ghost use lib.IntN.{pos};

@@ -1,4 +1,5 @@
-// The cells of the store, and the one range check of the machine. Inner: the instructions use them on a running machine.
+// The cells of the store, and the one range check of the machine. Inner: the instructions use them on a running
+// machine.
 mod cells;
 mod index;
 mod openings;

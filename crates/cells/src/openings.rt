@@ -1,4 +1,5 @@
-// What an instruction finds that makes something of which a box has only so many: a number in range, and room for one more.
+// What an instruction finds that makes something of which a box has only so many: a number in range, and room for one
+// more.
 ghost use mathlib.Core.Path.{_≡_};
 ghost use Rattle.cells.specs.Openings.{openingOf};
 use crate::index::Index;

@@ -1,4 +1,5 @@
-// Numbers of threads, mutexes, conditions and semaphores as an instruction finds them on the stack, and the stack with its top popped.
+// Numbers of threads, mutexes, conditions and semaphores as an instruction finds them on the stack, and the stack
+// with its top popped.
 ghost use mathlib.Core.Path.{_≡_};
 ghost use Prim.Native.Nat.{_-_, _<_, _≤_};
 ghost use lib.ListN.{length};
@@ -17,7 +18,8 @@ pub enum Named {
     Fault(usize),
 }
 
-// The number in the cell `at` from the top, counted from 1. It must be below `limit`; `missing` is the fault where it isn't, and 21 comes first.
+// The number in the cell `at` from the top, counted from 1. It must be below `limit`; `missing` is the fault where it
+// isn't, and 21 comes first.
 pub fn number_at(
     store: &[i32],
     size: usize,

@@ -1,4 +1,5 @@
-// Step and run. Each call tests its card, store and tables once, in the paper's order, and a run then goes on without looking at them again.
+// Step and run. Each call tests its card, store and tables once, in the paper's order, and a run then goes on without
+// looking at them again.
 ghost use Prim.Native.Nat.{_≤_};
 ghost use Rattle.outcome.specs.Outcome.{Gives};
 ghost use Rattle.machine.specs.Calls.{boxed, runCall, stepCall};
@@ -19,7 +20,10 @@ fn run_box(
     m: usize,
 ) -> Outcome
     requires { ⌜ size ≤ 32 ⌝ }
-    ensures { λ o. ⌜ Gives (runCall size (now (image .entry)) m (boxed (now (store .entry)) (now (tables .entry)) (now (values .entry)) r)) o (now (store .exit)) (now (tables .exit)) (now (values .exit)) ⌝ }
+    ensures { λ o.
+        ⌜ Gives (runCall size (now (image .entry)) m
+        (boxed (now (store .entry)) (now (tables .entry)) (now (values .entry)) r)) o
+        (now (store .exit)) (now (tables .exit)) (now (values .exit)) ⌝ }
 {
     match card::read(image) {
         Reading::Refused { number, place } => refused(number as usize, place, r),
@@ -47,7 +51,10 @@ pub fn step(
     values: &mut [i32],
     r: Registers,
 ) -> Outcome
-    ensures { λ o. ⌜ Gives (stepCall full (now (image .entry)) (boxed (now (store .entry)) (now (tables .entry)) (now (values .entry)) r)) o (now (store .exit)) (now (tables .exit)) (now (values .exit)) ⌝ }
+    ensures { λ o.
+        ⌜ Gives (stepCall full (now (image .entry))
+        (boxed (now (store .entry)) (now (tables .entry)) (now (values .entry)) r)) o
+        (now (store .exit)) (now (tables .exit)) (now (values .exit)) ⌝ }
 {
     run_box(image, store, tables, values, 32, r, 1)
 }
@@ -61,7 +68,10 @@ pub fn run(
     r: Registers,
     m: usize,
 ) -> Outcome
-    ensures { λ o. ⌜ Gives (runCall full (now (image .entry)) m (boxed (now (store .entry)) (now (tables .entry)) (now (values .entry)) r)) o (now (store .exit)) (now (tables .exit)) (now (values .exit)) ⌝ }
+    ensures { λ o.
+        ⌜ Gives (runCall full (now (image .entry)) m
+        (boxed (now (store .entry)) (now (tables .entry)) (now (values .entry)) r)) o
+        (now (store .exit)) (now (tables .exit)) (now (values .exit)) ⌝ }
 {
     run_box(image, store, tables, values, 32, r, m)
 }

@@ -1,4 +1,5 @@
-// The machine under the cards: set-up, step and run. These are the public functions: they take any input, and refuse what is bad.
+// The machine under the cards: set-up, step and run. These are the public functions: they take any input, and refuse
+// what is bad.
 mod calls;
 
 pub use calls::run;

@@ -1,4 +1,5 @@
-// A framed stream on standard input: one image, or text, after the other, each behind its length in 4 bytes, big-endian.
+// A framed stream on standard input: one image, or text, after the other, each behind its length in 4 bytes,
+// big-endian.
 
 pub enum Frame {
     // So many bytes: they stand at the start of the buffer.

@@ -1,4 +1,5 @@
-// The layout of the lent tables and values of a box of 32 threads, which is read as it is, not by the machine's functions.
+// The layout of the lent tables and values of a box of 32 threads, which is read as it is, not by the machine's
+// functions.
 
 pub const THREADS: usize = 32;
 

@@ -1,5 +1,5 @@
-// For each card, or text, of a framed stream on standard input, prints what the argument asks for. The second program prints the same, and
-// the two are compared.
+// For each card, or text, of a framed stream on standard input, prints what the argument asks for. The second program
+// prints the same, and the two are compared.
 mod frames;
 mod groups;
 mod hash;

@@ -1,4 +1,5 @@
-// Text into a line's buffer: each function writes from byte `at` on and answers the byte after its text. What has no room is left out.
+// Text into a line's buffer: each function writes from byte `at` on and answers the byte after its text. What has no
+// room is left out.
 
 // More than the longest line has.
 pub const ROOM: usize = 4096;

@@ -50,7 +50,8 @@ fn wait_for(
     requires { ⌜ Made size r ⌝ }
     requires { ⌜ topCondition size (now store) r ≡ Number (c .0) ⌝ }
     requires { ⌜ mutexAt size (now store) r 2 ≡ Number (m .0) ⌝ }
-    ensures { λ q. ⌜ Acts size wait (now (store .entry)) (now (tables .entry)) r (now (store .entry)) (now (tables .exit)) q ⌝ }
+    ensures { λ q.
+        ⌜ Acts size wait (now (store .entry)) (now (tables .entry)) r (now (store .entry)) (now (tables .exit)) q ⌝ }
 {
     if !tables::owns(tables, size, Thread(r.thread), m) {
         return r.stop(faults::NOT_OWNER);
@@ -66,7 +67,8 @@ pub fn wait(store: &[i32], tables: &mut [usize], size: usize, r: Registers) -> R
     requires { ⌜ Able size r (length (now store)) ⌝ }
     requires { ⌜ Good size (now tables) ⌝ }
     requires { ⌜ Made size r ⌝ }
-    ensures { λ q. ⌜ Acts size wait (now (store .entry)) (now (tables .entry)) r (now (store .entry)) (now (tables .exit)) q ⌝ }
+    ensures { λ q.
+        ⌜ Acts size wait (now (store .entry)) (now (tables .entry)) r (now (store .entry)) (now (tables .exit)) q ⌝ }
 {
     if r.cells < 2 {
         return r.stop(faults::STACK_UNDERFLOW);

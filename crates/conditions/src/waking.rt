@@ -11,7 +11,9 @@ pub fn signal(store: &[i32], tables: &mut [usize], size: usize, r: Registers) ->
     requires { ⌜ Able size r (length (now store)) ⌝ }
     requires { ⌜ Good size (now tables) ⌝ }
     requires { ⌜ Made size r ⌝ }
-    ensures { λ q. ⌜ Acts size signal (now (store .entry)) (now (tables .entry)) r (now (store .entry)) (now (tables .exit)) q ⌝ }
+    ensures { λ q.
+        ⌜ Acts size signal (now (store .entry)) (now (tables .entry)) r (now (store .entry))
+        (now (tables .exit)) q ⌝ }
 {
     match a_condition(store, size, r) {
         ACondition::Fault(number) => r.stop(number),
@@ -26,7 +28,9 @@ pub fn broadcast(store: &[i32], tables: &mut [usize], size: usize, r: Registers)
     requires { ⌜ Able size r (length (now store)) ⌝ }
     requires { ⌜ Good size (now tables) ⌝ }
     requires { ⌜ Made size r ⌝ }
-    ensures { λ q. ⌜ Acts size broadcast (now (store .entry)) (now (tables .entry)) r (now (store .entry)) (now (tables .exit)) q ⌝ }
+    ensures { λ q.
+        ⌜ Acts size broadcast (now (store .entry)) (now (tables .entry)) r (now (store .entry))
+        (now (tables .exit)) q ⌝ }
 {
     match a_condition(store, size, r) {
         ACondition::Fault(number) => r.stop(number),

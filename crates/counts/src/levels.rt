@@ -34,7 +34,8 @@ pub fn levels_fit(r: Registers, tables: &[usize], values: &[i32], size: usize) -
     requires { ⌜ Good size (now tables) ⌝ }
     requires { ⌜ Made size r ⌝ }
     requires { ⌜ length (now values) ≡ 2 * size ⌝ }
-    ensures { λ b. ⌜ b ≡ every (r .semaphores) (levelFits size (tablesOf size (now (tables .entry))) (now (values .entry))) ⌝ }
+    ensures { λ b.
+        ⌜ b ≡ every (r .semaphores) (levelFits size (tablesOf size (now (tables .entry))) (now (values .entry))) ⌝ }
 {
     let made = r.semaphores;
     let mut k = 0;

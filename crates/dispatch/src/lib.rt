@@ -1,4 +1,5 @@
-// The dispatcher: the instruction of each opcode that is not one of the running thread alone. Inner: the engine calls it on a running machine.
+// The dispatcher: the instruction of each opcode that is not one of the running thread alone. Inner: the engine calls
+// it on a running machine.
 ghost use Prim.Native.Nat.{_≤_};
 ghost use lib.ListN.{length};
 ghost use Rattle.cells.specs.Contract.{ChangesIn};
@@ -21,7 +22,9 @@ pub fn execute(
     requires { ⌜ Permitted opcode operand ⌝ }
     requires { ⌜ Others opcode ⌝ }
     requires { ⌜ opcode ≤ 40 ⌝ }
-    ensures { λ q. ⌜ ChangesIn size n (instructionOf opcode operand) (now (store .entry)) (now (tables .entry)) (now (values .entry)) r (now (store .exit)) (now (tables .exit)) (now (values .exit)) q ⌝ }
+    ensures { λ q.
+        ⌜ ChangesIn size n (instructionOf opcode operand) (now (store .entry)) (now (tables .entry))
+        (now (values .entry)) r (now (store .exit)) (now (tables .exit)) (now (values .exit)) q ⌝ }
 {
     match opcode {
         0 => control::halt(r),

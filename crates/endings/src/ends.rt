@@ -25,7 +25,8 @@ pub fn finish(
     requires { ⌜ Good size (now tables) ⌝ }
     requires { ⌜ length (now values) ≡ 2 * size ⌝ }
     requires { ⌜ r .thread < size ⌝ }
-    ensures { λ q. ⌜ Ends size v (now (tables .entry)) (now (values .entry)) r (now (tables .exit)) (now (values .exit)) q ⌝ }
+    ensures { λ q.
+        ⌜ Ends size v (now (tables .entry)) (now (values .entry)) r (now (tables .exit)) (now (values .exit)) q ⌝ }
 {
     let t = Thread(r.thread);
     tables::set_result(values, t, v);
@@ -45,7 +46,9 @@ pub fn exit(
     requires { ⌜ Able size r (length (now store)) ⌝ }
     requires { ⌜ Good size (now tables) ⌝ }
     requires { ⌜ length (now values) ≡ 2 * size ⌝ }
-    ensures { λ q. ⌜ Changes size exit (now (store .entry)) (now (tables .entry)) (now (values .entry)) r (now (store .entry)) (now (tables .exit)) (now (values .exit)) q ⌝ }
+    ensures { λ q.
+        ⌜ Changes size exit (now (store .entry)) (now (tables .entry)) (now (values .entry)) r
+        (now (store .entry)) (now (tables .exit)) (now (values .exit)) q ⌝ }
 {
     let cells = r.cells;
     if cells < 1 {
@@ -62,7 +65,8 @@ pub fn join(store: &[i32], tables: &mut [usize], size: usize, r: Registers) -> R
     requires { ⌜ Able size r (length (now store)) ⌝ }
     requires { ⌜ Good size (now tables) ⌝ }
     requires { ⌜ Made size r ⌝ }
-    ensures { λ q. ⌜ Acts size join (now (store .entry)) (now (tables .entry)) r (now (store .entry)) (now (tables .exit)) q ⌝ }
+    ensures { λ q.
+        ⌜ Acts size join (now (store .entry)) (now (tables .entry)) r (now (store .entry)) (now (tables .exit)) q ⌝ }
 {
     match a_thread(store, size, r) {
         AThread::Fault(number) => r.stop(number),
@@ -86,7 +90,9 @@ pub fn finalize(
     requires { ⌜ Good size (now tables) ⌝ }
     requires { ⌜ length (now values) ≡ 2 * size ⌝ }
     requires { ⌜ Made size r ⌝ }
-    ensures { λ q. ⌜ Changes size finalize (now (store .entry)) (now (tables .entry)) (now (values .entry)) r (now (store .exit)) (now (tables .entry)) (now (values .entry)) q ⌝ }
+    ensures { λ q.
+        ⌜ Changes size finalize (now (store .entry)) (now (tables .entry)) (now (values .entry)) r
+        (now (store .exit)) (now (tables .entry)) (now (values .entry)) q ⌝ }
 {
     match a_thread(store, size, r) {
         AThread::Fault(number) => r.stop(number),

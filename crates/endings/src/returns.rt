@@ -23,7 +23,9 @@ pub fn return_from(
     requires { ⌜ Able size r (length (now store)) ⌝ }
     requires { ⌜ Good size (now tables) ⌝ }
     requires { ⌜ length (now values) ≡ 2 * size ⌝ }
-    ensures { λ q. ⌜ ChangesIn size n return (now (store .entry)) (now (tables .entry)) (now (values .entry)) r (now (store .entry)) (now (tables .exit)) (now (values .exit)) q ⌝ }
+    ensures { λ q.
+        ⌜ ChangesIn size n return (now (store .entry)) (now (tables .entry)) (now (values .entry)) r
+        (now (store .entry)) (now (tables .exit)) (now (values .exit)) q ⌝ }
 {
     let fp = r.fp;
     if r.cells <= fp {

@@ -1,4 +1,5 @@
-// The engine: a run of many instructions, of a machine that is in order. Inner: the public calls test their input first.
+// The engine: a run of many instructions, of a machine that is in order. Inner: the public calls test their input
+// first.
 mod progress;
 mod runs;
 mod stretches;

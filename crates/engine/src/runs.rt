@@ -27,7 +27,9 @@ fn carry(
     requires { ⌜ Sound size (boxed (now store) (now tables) (now values) r) ⌝ }
     requires { ⌜ r .state ≡ 1 ⌝ }
     requires { ⌜ (r .pc < n → Others (instructionAt (now code) (r .pc) .opcode)) ⌝ }
-    ensures { λ q. ⌜ Carries size (now (code .entry)) (now (store .entry)) (now (tables .entry)) (now (values .entry)) r (now (store .exit)) (now (tables .exit)) (now (values .exit)) q ⌝ }
+    ensures { λ q.
+        ⌜ Carries size (now (code .entry)) (now (store .entry)) (now (tables .entry)) (now (values .entry)) r
+        (now (store .exit)) (now (tables .exit)) (now (values .exit)) q ⌝ }
 {
     let pc = r.pc;
     if n <= pc {
@@ -51,7 +53,9 @@ fn onward(
     requires { ⌜ Carded (now code) n ⌝ }
     requires { ⌜ size ≤ 32 ⌝ }
     requires { ⌜ Sound size (boxed (now store) (now tables) (now values) r) ⌝ }
-    ensures { λ p. ⌜ Onward size (now (code .entry)) m (now (store .entry)) (now (tables .entry)) (now (values .entry)) r (now (store .exit)) (now (tables .exit)) (now (values .exit)) p ⌝ }
+    ensures { λ p.
+        ⌜ Onward size (now (code .entry)) m (now (store .entry)) (now (tables .entry)) (now (values .entry)) r
+        (now (store .exit)) (now (tables .exit)) (now (values .exit)) p ⌝ }
 {
     let p = stretch(code, store, size, n, r, m);
     let count = p.count;
@@ -86,7 +90,9 @@ pub fn run(
     requires { ⌜ Carded (now code) n ⌝ }
     requires { ⌜ size ≤ 32 ⌝ }
     requires { ⌜ Sound size (boxed (now store) (now tables) (now values) r) ⌝ }
-    ensures { λ p. ⌜ Lasts size (now (code .entry)) (now (store .entry)) (now (tables .entry)) (now (values .entry)) r m (now (store .exit)) (now (tables .exit)) (now (values .exit)) p ⌝ }
+    ensures { λ p.
+        ⌜ Lasts size (now (code .entry)) (now (store .entry)) (now (tables .entry)) (now (values .entry)) r m
+        (now (store .exit)) (now (tables .exit)) (now (values .exit)) p ⌝ }
 {
     let mut registers = r;
     let mut count = 0;

@@ -1,5 +1,5 @@
-// Stretches of instructions of the running thread alone. They are a loop of their own, with no call in it: what stays the same in it, the
-// thread's stack above all, stays in the processor's registers.
+// Stretches of instructions of the running thread alone. They are a loop of their own, with no call in it: what stays
+// the same in it, the thread's stack above all, stays in the processor's registers.
 ghost use Prim.Native.Nat.{_≤_};
 ghost use Rattle.engine.specs.Contract.{Carded, Housed, Stretched};
 use crate::progress::Progress;

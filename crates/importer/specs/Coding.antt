@@ -1,4 +1,5 @@
--- What the importer's inner functions answer: the definitions of Forms as the code's enums hold them, operands as bits and instructions as words.
+-- What the importer's inner functions answer: the definitions of Forms as the code's enums hold them, operands as
+-- bits and instructions as words.
 use Prim.Native.Nat.{ℕ, suc, _+_, _-_}
 use mathlib.Core.Bool.{cond}
 use mathlib.Core.List.{List, [], _∷_}

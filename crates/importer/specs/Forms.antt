@@ -20,7 +20,8 @@ pub record Item : Type 0 where
   pub opcode : ℕ
   pub operand : ℤ
 
--- "First line `cells` and g; .. g and operand in decimal without leading zeros .., g without a sign": the words of such a line
+-- "First line `cells` and g; .. g and operand in decimal without leading zeros .., g without a sign": the words of
+-- such a line
 unfoldable pub headerRead : List (List ℕ) → Option ℕ
 headerRead [] = none
 headerRead (word ∷ []) = none
@@ -44,7 +45,8 @@ bareItem (Opcode opcode) = cond (hasOperand (ruleOf opcode)) none (some (record 
 bareItem Unknown = none
 
 abbrev pub fullItem : Named → Option ℤ → Option Item
-fullItem (Opcode opcode) (some k) = cond (hasOperand (ruleOf opcode)) (some (record { opcode = opcode; operand = k })) none
+fullItem (Opcode opcode) (some k) = cond (hasOperand (ruleOf opcode))
+    (some (record { opcode = opcode; operand = k })) none
 fullItem (Opcode opcode) none = none
 fullItem Unknown k = none
 

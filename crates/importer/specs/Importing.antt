@@ -49,8 +49,8 @@ abbrev pub afterRules : Option ℕ → Result → Result
 afterRules (some index) rest = refuses 5 index
 afterRules none rest = rest
 
--- the answer on what a text says, which gives the image's size, for a buffer with so much room. No text gives 4: a name that isn't known is a line
--- of another form
+-- the answer on what a text says, which gives the image's size, for a buffer with so much room. No text gives 4: a
+-- name that isn't known is a line of another form
 unfoldable pub answerOf : Text → ℕ → Result
 answerOf (refused number place) room = refuses number place
 answerOf (card cells items) room =

@@ -15,7 +15,8 @@ ListedIsImported =
     (cells : ℕ) (image buffer : List ℕ) → Each 256 image → length image ≤ length buffer →
     readOf image ≡ gives cells →
     let answer = answerOf (said (listingOf image)) (length buffer) in
-    (answer ≡ gives (length image)) × (imported answer (said (listingOf image)) buffer ≡ image ++ drop (length image) buffer)
+    (answer ≡ gives (length image))
+    × (imported answer (said (listingOf image)) buffer ≡ image ++ drop (length image) buffer)
 
 -- whatever text is imported, its image is accepted, and the listing of that image is the text, byte for byte
 abbrev pub ImportedIsListed : Type 0

@@ -93,7 +93,8 @@ fn next_line(text: &[u8], at: usize, index: usize) -> Next
     }
 }
 
-// Stores a word where there is room for it: a text with more instructions than a card can have is refused by their count.
+// Stores a word where there is room for it: a text with more instructions than a card can have is refused by their
+// count.
 fn store(words: &mut [u32], index: usize, word: u32)
     ensures { λ _. ⌜ now (words .exit) ≡ set (now (words .entry)) index word ⌝ }
 {
@@ -106,7 +107,9 @@ fn store(words: &mut [u32], index: usize, word: u32)
 pub fn read_lines(text: &[u8], start: usize, words: &mut [u32]) -> Lines
     requires { ⌜ start ≤ length (now text) ⌝ }
     ensures { λ r. ⌜ r ≡ codedLines 0 (linesRead 0 start (split 10 (drop start (now (text .entry))))) ⌝ }
-    ensures { λ r. ⌜ Stores (linesRead 0 start (split 10 (drop start (now (text .entry))))) (now (words .entry)) (now (words .exit)) ⌝ }
+    ensures { λ r.
+        ⌜ Stores (linesRead 0 start (split 10 (drop start (now (text .entry))))) (now (words .entry))
+        (now (words .exit)) ⌝ }
 {
     let mut at = start;
     let mut index = 0;

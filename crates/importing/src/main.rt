@@ -1,8 +1,8 @@
 // The way back: reads a card's text on standard input and writes its image, or the line of its refusal.
 use importer::Importing;
 
-// Room for the first line and for 10,000 more, as many as there are addresses, of up to 26 bytes; a card's longest line has 20. A text that
-// fills it may go on, and isn't judged: its last line may be cut.
+// Room for the first line and for 10,000 more, as many as there are addresses, of up to 26 bytes; a card's longest
+// line has 20. A text that fills it may go on, and isn't judged: its last line may be cut.
 const INPUT_LIMIT: usize = 262144;
 
 const LONGEST_IMAGE: usize = 16393;

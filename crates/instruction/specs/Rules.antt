@@ -27,8 +27,8 @@ ruleOf op =
 abbrev pub isBetween : ℤ → ℤ → ℤ → Bool
 isBetween low high k = leZ low k && leZ k high
 
--- the operands that a rule allows on a card whose last instruction is number `last`, n − 1: "k of loadr and storer −128 to 127,
--- of alloc 0 to 127, a is 0 to n−1, loadc any of 24 bits; elsewhere 0"
+-- the operands that a rule allows on a card whose last instruction is number `last`, n − 1: "k of loadr and storer
+-- −128 to 127, of alloc 0 to 127, a is 0 to n−1, loadc any of 24 bits; elsewhere 0"
 abbrev pub allows : Rule → ℤ → ℤ → Bool
 allows Offset last k = isBetween (negsuc 127) (pos 127) k
 allows Count last k = isBetween (pos 0) (pos 127) k

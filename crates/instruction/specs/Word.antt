@@ -1,4 +1,5 @@
--- "Instructions of 4 bytes, an opcode byte and a 24-bit two's complement operand", as one number: opcode times 2^24 plus the operand's 24 bits.
+-- "Instructions of 4 bytes, an opcode byte and a 24-bit two's complement operand", as one number: opcode times 2^24
+-- plus the operand's 24 bits.
 use Prim.Native.Nat.{ℕ, _+_, _*_, _-_, _/_, _%_}
 use mathlib.Core.Bool.{cond}
 use lib.Dec.{ltb}

@@ -1,4 +1,5 @@
--- The functions for C, with lists of numbers in the place of structs and enums. An answer's numbers are those of the promises themselves.
+-- The functions for C, with lists of numbers in the place of structs and enums. An answer's numbers are those of the
+-- promises themselves.
 use Prim.Native.Nat.{ℕ}
 use mathlib.Core.List.{List}
 use mathlib.Core.Path.{_≡_}
@@ -13,7 +14,8 @@ use Rattle.machine.specs.Calls.{Called, countOf}
 use Rattle.lists.specs.Lists.{answerList, listOf}
 
 -- what a call leaves in everything that it was lent
-pub record Reports (called : Called) (store : List ℤ) (tables : List ℕ) (values : List ℤ) (registers report : List ℕ) : Type 0 where
+pub record Reports (called : Called) (store : List ℤ) (tables : List ℕ) (values : List ℤ)
+    (registers report : List ℕ) : Type 0 where
   pub in-store : store ≡ called .box .store
   pub in-tables : tables ≡ called .box .tables
   pub in-values : values ≡ called .box .values

@@ -29,7 +29,10 @@ pub extern "C" fn leprahoon_set_up(
     registers: &mut [usize; 11],
     report: &mut [usize; 4],
 )
-    ensures { λ _. ⌜ Reports (setUp full (now (image .entry)) (boxed (now (store .entry)) (now (tables .entry)) (now (values .entry)) zeros)) (now (store .exit)) (now (tables .exit)) (now (values .exit)) (now (registers .exit)) (now (report .exit)) ⌝ }
+    ensures { λ _.
+        ⌜ Reports (setUp full (now (image .entry))
+        (boxed (now (store .entry)) (now (tables .entry)) (now (values .entry)) zeros))
+        (now (store .exit)) (now (tables .exit)) (now (values .exit)) (now (registers .exit)) (now (report .exit)) ⌝ }
 {
     let o = cma::set_up(image, store, tables, values);
     put_outcome(o, registers, report);
@@ -44,7 +47,10 @@ pub extern "C" fn leprahoon_step(
     registers: &mut [usize; 11],
     report: &mut [usize; 4],
 )
-    ensures { λ _. ⌜ Reports (stepCall full (now (image .entry)) (boxed (now (store .entry)) (now (tables .entry)) (now (values .entry)) (registersOf (now (registers .entry))))) (now (store .exit)) (now (tables .exit)) (now (values .exit)) (now (registers .exit)) (now (report .exit)) ⌝ }
+    ensures { λ _.
+        ⌜ Reports (stepCall full (now (image .entry)) (boxed (now (store .entry)) (now (tables .entry))
+        (now (values .entry)) (registersOf (now (registers .entry)))))
+        (now (store .exit)) (now (tables .exit)) (now (values .exit)) (now (registers .exit)) (now (report .exit)) ⌝ }
 {
     let o = cma::step(image, store, tables, values, take_registers(registers));
     put_outcome(o, registers, report);
@@ -60,7 +66,10 @@ pub extern "C" fn leprahoon_run(
     steps: usize,
     report: &mut [usize; 4],
 )
-    ensures { λ _. ⌜ Reports (runCall full (now (image .entry)) steps (boxed (now (store .entry)) (now (tables .entry)) (now (values .entry)) (registersOf (now (registers .entry))))) (now (store .exit)) (now (tables .exit)) (now (values .exit)) (now (registers .exit)) (now (report .exit)) ⌝ }
+    ensures { λ _.
+        ⌜ Reports (runCall full (now (image .entry)) steps (boxed (now (store .entry)) (now (tables .entry))
+        (now (values .entry)) (registersOf (now (registers .entry)))))
+        (now (store .exit)) (now (tables .exit)) (now (values .exit)) (now (registers .exit)) (now (report .exit)) ⌝ }
 {
     let o = cma::run(
         image,

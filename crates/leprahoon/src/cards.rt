@@ -58,7 +58,8 @@ pub extern "C" fn leprahoon_write(
     *report = list_of_writing(writer::write(cells, list, out));
 }
 
-// Runs a card as the runner does and writes its line; gives the line's length, or 0 where the buffer has under 90 bytes.
+// Runs a card as the runner does and writes its line; gives the line's length, or 0 where the buffer has under 90
+// bytes.
 #[no_mangle]
 pub extern "C" fn leprahoon_line(input: &[u8], out: &mut [u8]) -> usize
     ensures { λ n. ⌜ PrintsLine (now (input .entry)) (now (out .entry)) (now (out .exit)) n ⌝ }

@@ -19,14 +19,15 @@ use Rattle.line.specs.declared.answers.Line.the-variants.{Written, NoRoo
 -- the line of an answer, in any box with this running thread, these tables and these values
 abbrev pub PutsLine : Answer → ℕ → ℕ → List ℕ → List ℤ → List ℕ → List ℕ → ℕ → Type 0
 PutsLine answer steps thread tables values before after next =
-    (box : Box) → box .regs .thread ≡ thread → box .tables ≡ tables → box .values ≡ values → Puts (answerLine full (calls.told answer) steps box) before 0 after next
+    (box : Box) → box .regs .thread ≡ thread → box .tables ≡ tables → box .values ≡ values →
+    Puts (answerLine full (calls.told answer) steps box) before 0 after next
 
 -- room for every line: the longest is `fault`, four numbers of 20 digits, a space before each, and the line feed
 abbrev pub room : ℕ
 room = 90
 
--- the answer, which gives the line's length, for a buffer with so many bytes. The paper has no number for a buffer without room here: it is that of
--- a card's text, 43 at 0
+-- the answer, which gives the line's length, for a buffer with so many bytes. The paper has no number for a buffer
+-- without room here: it is that of a card's text, 43 at 0
 abbrev pub lineAnswer : List ℕ → ℕ → Result
 lineAnswer input bytes = cond (ltb bytes room) (refuses 43 0) (gives (length (runnerLine full input)))
 

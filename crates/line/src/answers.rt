@@ -43,7 +43,9 @@ fn put_answer(
     requires { ⌜ 90 ≤ length (now out) ⌝ }
     requires { ⌜ 32 ≤ length (now tables) ⌝ }
     requires { ⌜ 32 ≤ length (now values) ⌝ }
-    ensures { λ r. ⌜ PutsLine answer steps thread (now (tables .entry)) (now (values .entry)) (now (out .entry)) (now (out .exit)) r ⌝ }
+    ensures { λ r.
+        ⌜ PutsLine answer steps thread (now (tables .entry)) (now (values .entry)) (now (out .entry))
+        (now (out .exit)) r ⌝ }
     ensures { λ r. ⌜ r ≤ 90 ⌝ }
 {
     match answer {
@@ -75,7 +77,10 @@ fn is_refused(answer: Answer) -> bool
 
 // Sets a card up in lent memory and runs it.
 fn run_card(image: &[u8], store: &mut [i32], tables: &mut [usize], values: &mut [i32]) -> Outcome
-    ensures { λ o. ⌜ Gives (runnerIn full (now (image .entry)) (boxed (now (store .entry)) (now (tables .entry)) (now (values .entry)) zeros)) o (now (store .exit)) (now (tables .exit)) (now (values .exit)) ⌝ }
+    ensures { λ o.
+        ⌜ Gives (runnerIn full (now (image .entry))
+        (boxed (now (store .entry)) (now (tables .entry)) (now (values .entry)) zeros)) o
+        (now (store .exit)) (now (tables .exit)) (now (values .exit)) ⌝ }
 {
     let up = cma::set_up(image, store, tables, values);
     let answer = up.answer;
@@ -89,7 +94,8 @@ fn run_card(image: &[u8], store: &mut [i32], tables: &mut [usize], values: &mut 
 // Runs a card in memory of its own and writes its line.
 fn put_line(image: &[u8], out: &mut [u8]) -> usize
     requires { ⌜ 90 ≤ length (now out) ⌝ }
-    ensures { λ r. ⌜ Puts (lineOf full (runnerCall full (now (image .entry)))) (now (out .entry)) 0 (now (out .exit)) r ⌝ }
+    ensures { λ r.
+        ⌜ Puts (lineOf full (runnerCall full (now (image .entry)))) (now (out .entry)) 0 (now (out .exit)) r ⌝ }
     ensures { λ r. ⌜ r ≤ 90 ⌝ }
 {
     let mut store = [0i32; 8192];

@@ -34,7 +34,8 @@ pub fn put_state(out: &mut [u8], word: &[u8], steps: usize) -> usize
 
 pub fn put_refused(out: &mut [u8], number: usize, place: usize) -> usize
     requires { ⌜ 90 ≤ length (now out) ⌝ }
-    ensures { λ r. ⌜ Puts (line refusedWord (decimal number ∷ decimal place ∷ [])) (now (out .entry)) 0 (now (out .exit)) r ⌝ }
+    ensures { λ r.
+        ⌜ Puts (line refusedWord (decimal number ∷ decimal place ∷ [])) (now (out .entry)) 0 (now (out .exit)) r ⌝ }
     ensures { λ r. ⌜ r ≤ 90 ⌝ }
 {
     let mut at = text::put_bytes(out, 0, b"refused");
@@ -45,7 +46,9 @@ pub fn put_refused(out: &mut [u8], number: usize, place: usize) -> usize
 
 pub fn put_fault(out: &mut [u8], number: usize, thread: usize, place: usize, steps: usize) -> usize
     requires { ⌜ 90 ≤ length (now out) ⌝ }
-    ensures { λ r. ⌜ Puts (line faultWord (decimal number ∷ decimal thread ∷ decimal place ∷ decimal steps ∷ [])) (now (out .entry)) 0 (now (out .exit)) r ⌝ }
+    ensures { λ r.
+        ⌜ Puts (line faultWord (decimal number ∷ decimal thread ∷ decimal place ∷ decimal steps ∷ []))
+        (now (out .entry)) 0 (now (out .exit)) r ⌝ }
     ensures { λ r. ⌜ r ≤ 90 ⌝ }
 {
     let mut at = text::put_bytes(out, 0, b"fault");
@@ -61,7 +64,9 @@ fn put_result(out: &mut [u8], at: usize, tables: &[usize], values: &[i32]) -> us
     requires { ⌜ at + 21 ≤ length (now out) ⌝ }
     requires { ⌜ 32 ≤ length (now tables) ⌝ }
     requires { ⌜ 32 ≤ length (now values) ⌝ }
-    ensures { λ r. ⌜ Puts (resultOf full (boxed [] (now (tables .entry)) (now (values .entry)) zeros)) (now (out .entry)) at (now (out .exit)) r ⌝ }
+    ensures { λ r.
+        ⌜ Puts (resultOf full (boxed [] (now (tables .entry)) (now (values .entry)) zeros)) (now (out .entry)) at
+        (now (out .exit)) r ⌝ }
     ensures { λ r. ⌜ r ≤ at + 21 ⌝ }
 {
     if tables::has_ended(tables, 32, Thread(0)) {
@@ -75,7 +80,10 @@ pub fn put_halted(out: &mut [u8], steps: usize, tables: &[usize], values: &[i32]
     requires { ⌜ 90 ≤ length (now out) ⌝ }
     requires { ⌜ 32 ≤ length (now tables) ⌝ }
     requires { ⌜ 32 ≤ length (now values) ⌝ }
-    ensures { λ r. ⌜ Puts (line haltedWord (decimal steps ∷ resultOf full (boxed [] (now (tables .entry)) (now (values .entry)) zeros) ∷ [])) (now (out .entry)) 0 (now (out .exit)) r ⌝ }
+    ensures { λ r.
+        ⌜ Puts (line haltedWord
+        (decimal steps ∷ resultOf full (boxed [] (now (tables .entry)) (now (values .entry)) zeros) ∷ []))
+        (now (out .entry)) 0 (now (out .exit)) r ⌝ }
     ensures { λ r. ⌜ r ≤ 90 ⌝ }
 {
     let mut at = text::put_bytes(out, 0, b"halted");

@@ -22,7 +22,8 @@ contentOf image (suc index) = wordAt image (headerSize + 4 * index)
 abbrev pub imageLine : List ℕ → ℕ → List ℕ
 imageLine image line = lineText line (contentOf image line)
 
--- the line that is asked for: an accepted image of n instructions has the lines 0 to n, and past the last there is nothing
+-- the line that is asked for: an accepted image of n instructions has the lines 0 to n, and past the last there is
+-- nothing
 abbrev pub asked : List ℕ → ℕ → List ℕ
 asked image line = cond (ltb (countOf image) line) [] (imageLine image line)
 
@@ -50,7 +51,8 @@ told Past = gives 0
 told (Refused number place) = refuses number place
 
 -- an answer, and the buffer that it leaves
-pub record Leaves (expected : Result) (image : List ℕ) (line : ℕ) (before : List ℕ) (answer : Listing) (after : List ℕ) : Type 0 where
+pub record Leaves (expected : Result) (image : List ℕ) (line : ℕ) (before : List ℕ) (answer : Listing)
+    (after : List ℕ) : Type 0 where
   pub answered : told answer ≡ expected
   -- so past the last line, and there alone, the answer is Past
   pub some : (size : ℕ) → answer ≡ Written size → 1 ≤ size
@@ -65,6 +67,8 @@ unfoldable pub linesFrom : List ℕ → ℕ → ℕ → List ℕ
 linesFrom image line zero = []
 linesFrom image line (suc count) = imageLine image line ++ linesFrom image (suc line) count
 
--- "line by line": the lines 0 to n of an image that is accepted, one after the other, are its listing. The proof is in proofs/Whole.antt
+-- "line by line": the lines 0 to n of an image that is accepted, one after the other, are its listing. The proof is
+-- in proofs/Whole.antt
 abbrev pub LinesAreListing : Type 0
-LinesAreListing = (cells : ℕ) (image : List ℕ) → readOf image ≡ gives cells → linesFrom image 0 (suc (countOf image)) ≡ listingOf image
+LinesAreListing = (cells : ℕ) (image : List ℕ) → readOf image ≡ gives cells →
+    linesFrom image 0 (suc (countOf image)) ≡ listingOf image

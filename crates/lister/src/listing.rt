@@ -32,7 +32,9 @@ fn content_of(image: &[u8], line: usize) -> u32
 // Lists a line of an image that is accepted: it is made whole first, so that a refusal leaves `out` as it was.
 fn list_accepted(image: &[u8], line: usize, out: &mut [u8]) -> Listing
     requires { ⌜ Headed (now image) ⌝ }
-    ensures { λ r. ⌜ Leaves (lineOf (now (image .entry)) line (length (now (out .entry)))) (now (image .entry)) line (now (out .entry)) r (now (out .exit)) ⌝ }
+    ensures { λ r.
+        ⌜ Leaves (lineOf (now (image .entry)) line (length (now (out .entry)))) (now (image .entry)) line
+        (now (out .entry)) r (now (out .exit)) ⌝ }
 {
     let n = instruction::half_at(image, 7) as usize;
     if n < line {

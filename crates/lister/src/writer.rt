@@ -1,5 +1,6 @@
-// The listing writer: a lent buffer, which it fills piece by piece, and the place that it has reached. Inner. Each function over the
-// struct takes it apart and calls one on the slice and the number; `put_one` has plain parameters, and serves every other caller.
+// The listing writer: a lent buffer, which it fills piece by piece, and the place that it has reached. Inner. Each
+// function over the struct takes it apart and calls one on the slice and the number; `put_one` has plain parameters,
+// and serves every other caller.
 ghost use Prim.Native.Nat.{_+_, _≤_};
 ghost use lib.ListN.{length};
 ghost use mathlib.Core.Path.{_≡_};

@@ -1,4 +1,5 @@
-// The printing program: reads a card image on standard input and prints its text, line by line, or the line of its refusal.
+// The printing program: reads a card image on standard input and prints its text, line by line, or the line of its
+// refusal.
 
 // Of a longer input only so many bytes are judged.
 const INPUT_LIMIT: usize = 16394;

@@ -26,7 +26,8 @@ pub record Permitted (opcode : ℕ) (operand : ℤ) : Type 0 where
 abbrev pub Others : ℕ → Type 0
 Others opcode = (opcode ≡ 0) ⊎ ((opcode ≡ 6) ⊎ (24 ≤ opcode))
 
--- an instruction does what the definitions say, for every tables and values; or it is another, and the store is as it was
+-- an instruction does what the definitions say, for every tables and values; or it is another, and the store is as it
+-- was
 abbrev pub Went : ℕ → ℕ → ℕ → ℤ → List ℤ → Registers → List ℤ → Local → Type 0
 Went size n opcode operand store r store′ (Done q) = DoesIn size n (instructionOf opcode operand) store r store′ q
 Went size n opcode operand store r store′ Other = (store′ ≡ store) × Others opcode

@@ -1,6 +1,6 @@
-// The instructions that a thread mostly runs: they touch its own stack and shared cells, and leave tables, values and the other registers alone.
-// Inner: the engine runs stretches of them. None of them becomes a call in the compiled loop, as alloc would: that loop then keeps its
-// values in the processor's registers.
+// The instructions that a thread mostly runs: they touch its own stack and shared cells, and leave tables, values and
+// the other registers alone. Inner: the engine runs stretches of them. None of them becomes a call in the compiled
+// loop, as alloc would: that loop then keeps its values in the processor's registers.
 ghost use lib.IntN.{natAbs};
 ghost use lib.ListN.{length};
 ghost use mathlib.Core.Path.{_≡_};

@@ -37,7 +37,8 @@ pub fn lock(store: &[i32], tables: &mut [usize], size: usize, r: Registers) -> R
     requires { ⌜ Able size r (length (now store)) ⌝ }
     requires { ⌜ Good size (now tables) ⌝ }
     requires { ⌜ Made size r ⌝ }
-    ensures { λ q. ⌜ Acts size lock (now (store .entry)) (now (tables .entry)) r (now (store .entry)) (now (tables .exit)) q ⌝ }
+    ensures { λ q.
+        ⌜ Acts size lock (now (store .entry)) (now (tables .entry)) r (now (store .entry)) (now (tables .exit)) q ⌝ }
 {
     match a_mutex(store, size, r, 1) {
         AMutex::Fault(number) => r.stop(number),
@@ -57,7 +58,9 @@ pub fn unlock(store: &[i32], tables: &mut [usize], size: usize, r: Registers) ->
     requires { ⌜ Able size r (length (now store)) ⌝ }
     requires { ⌜ Good size (now tables) ⌝ }
     requires { ⌜ Made size r ⌝ }
-    ensures { λ q. ⌜ Acts size unlock (now (store .entry)) (now (tables .entry)) r (now (store .entry)) (now (tables .exit)) q ⌝ }
+    ensures { λ q.
+        ⌜ Acts size unlock (now (store .entry)) (now (tables .entry)) r (now (store .entry))
+        (now (tables .exit)) q ⌝ }
 {
     match a_mutex(store, size, r, 1) {
         AMutex::Fault(number) => r.stop(number),

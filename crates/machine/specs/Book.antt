@@ -1,4 +1,5 @@
--- "What demand 3 speaks of": the plain book beside the tables. It is fed what was carried out and never looks at queues or owners.
+-- "What demand 3 speaks of": the plain book beside the tables. It is fed what was carried out and never looks at
+-- queues or owners.
 use Prim.Native.Nat.{ℕ, _+_, _-_}
 use mathlib.Core.Bool.{Bool, cond, not as negate, _&&_, _||_}
 use mathlib.Core.List.{List, [], _∷_, _++_}
@@ -77,8 +78,8 @@ eventOf size before instr.newcond after = other
 eventOf size before instr.signal after = other
 eventOf size before instr.broadcast after = other
 
--- what it holds of the semaphores (change request Four): how often newsema pushed each number, with what starting count, how many ups were carried
--- out on it, and the names of those who began down on it, in their order
+-- what it holds of the semaphores (change request Four): how often newsema pushed each number, with what starting
+-- count, how many ups were carried out on it, and the names of those who began down on it, in their order
 pub record Permits : Type 0 where
   pub made : ℕ → ℕ
   pub starting : ℕ → ℕ
@@ -114,7 +115,8 @@ more f k n j = cond (eqb j k) (f j + n) (f j)
 
 -- newsema enters the number pushed and its starting count, unless it is −1
 abbrev pub opened : Permits → ℕ → ℤ → Permits
-opened p n (pos k) = record { made = more (p .made) k 1; starting = more (p .starting) k n; ups = p .ups; downs = p .downs }
+opened p n (pos k) =
+    record { made = more (p .made) k 1; starting = more (p .starting) k n; ups = p .ups; downs = p .downs }
 opened p n (negsuc k) = p
 
 -- up adds one to its semaphore's ups

@@ -20,8 +20,8 @@ use Rattle.machine.specs.declared.answers.Answer.{Answer}
 use Rattle.machine.specs.declared.answers.Answer.the-variants.{Halted, Running, Stuck, Faulted, Refused}
 use Rattle.machine.specs.declared.registers.Registers.{Registers}
 
--- what a call is lent, and what it leaves: the store, the tables, the values (what the ended threads ended with, and the semaphores' counts), and
--- the registers
+-- what a call is lent, and what it leaves: the store, the tables, the values (what the ended threads ended with, and
+-- the semaphores' counts), and the registers
 pub record Box : Type 0 where
   pub store : List ℤ
   pub tables : List ℕ
@@ -39,8 +39,8 @@ stateOf size box =
 abbrev pub boxOf : State → Box
 boxOf s = record { store = s .store; tables = sliceOf (s .tables); values = s .values; regs = s .regs }
 
--- what a call answers, by numbers: the machine's state, or that the call was refused; the number in the paper's table, of a fault or a refusal; and
--- its place
+-- what a call answers, by numbers: the machine's state, or that the call was refused; the number in the paper's
+-- table, of a fault or a refusal; and its place
 pub record Report : Type 0 where
   pub state : ℕ
   pub number : ℕ
@@ -104,7 +104,8 @@ accepted size box ran =
     (cond (negate (wellFormed size (box .regs) (box .tables) (box .values))) (refused 7 0 box)
     (ranOf ran))
 
--- "In order: 1, 2, 3, then the first bad instruction (4 before 5), 6, 7"; "numbers 1 to 7 are tested before that, by a run of 0 steps too"
+-- "In order: 1, 2, 3, then the first bad instruction (4 before 5), 6, 7"; "numbers 1 to 7 are tested before that, by
+-- a run of 0 steps too"
 abbrev pub judged : ℕ → Result → Box → Ran → Called
 judged size (result.refuses number place) box ran = refused number place box
 judged size (result.gives cells) box ran = accepted size box ran

@@ -1,4 +1,5 @@
--- Small cards for the sessions and examples: each instruction as its word, by the paper's opcodes, and the image of a list of them.
+-- Small cards for the sessions and examples: each instruction as its word, by the paper's opcodes, and the image of a
+-- list of them.
 use Prim.Native.Nat.{ℕ}
 use mathlib.Core.List.{List, [], _∷_}
 use mathlib.Core.Path.{_≡_, refl}

@@ -1,5 +1,5 @@
--- "What each instruction does", in the paper's order, with the faults of the table in their order of precedence: 21 and 22 come first.
--- PC has advanced already: see Step.antt.
+-- "What each instruction does", in the paper's order, with the faults of the table in their order of precedence: 21
+-- and 22 come first. PC has advanced already: see Step.antt.
 use Prim.Native.Nat.{ℕ, _+_, _-_, _*_}
 use mathlib.Core.Bool.{Bool, cond, not as negate, _&&_}
 use lib.Dec.{eqb, leb, ltb}
@@ -46,7 +46,8 @@ divides (negsuc a) o = o
 abbrev pub truth : Bool → ℤ
 truth b = cond b (pos 1) (pos 0)
 
--- 31: "exit, and a return that ends the thread, are faulted when the thread owns any mutex" (change request Two); else "the thread ends with" a value
+-- 31: "exit, and a return that ends the thread, are faulted when the thread owns any mutex" (change request Two);
+-- else "the thread ends with" a value
 abbrev pub ending : ℕ → State → ℤ → Outcome
 ending size s v = cond (ownsAny size (s .tables) (s .regs .thread)) (fault 31) (done (ends size s v))
 
@@ -86,8 +87,8 @@ module _ (size n : ℕ) (s : State) where
   abbrev pub frameCell : ℤ → (ℕ → Outcome) → Outcome
   frameCell k f = within (pos (s .regs .fp) +ℤ k) depth 23 f
 
-  -- "return needs FP ≤ SP and cell FP−1 either −1 or 2 to FP−1. At −1 the thread ends with cell FP−2. Else cell FP must be 0 to n−1:
-  -- SP = FP−2, PC and FP are taken from the two cells."
+  -- "return needs FP ≤ SP and cell FP−1 either −1 or 2 to FP−1. At −1 the thread ends with cell FP−2. Else cell FP
+  -- must be 0 to n−1: SP = FP−2, PC and FP are taken from the two cells."
   abbrev pub returned : ℕ → ℕ → State
   returned fp pc = withRegs s (withPc (withFp (withCells (s .regs) (s .regs .fp - 1)) fp) pc)
 
@@ -100,7 +101,8 @@ module _ (size n : ℕ) (s : State) where
   abbrev pub returning : Outcome
   returning = cond (ltb (s .regs .fp) depth) (frame (cell size s (s .regs .fp - 1))) (fault 26)
 
-  -- "new: n in top becomes the first of n fresh shared cells, or 0 exactly if fewer than n are left"; 30: "new of fewer than 1"
+  -- "new: n in top becomes the first of n fresh shared cells, or 0 exactly if fewer than n are left"; 30: "new of
+  -- fewer than 1"
   unfoldable pub fresh : ℤ → Outcome
   fresh (pos k) =
       cond (eqb k 0) (fault 30)
@@ -109,7 +111,8 @@ module _ (size n : ℕ) (s : State) where
       (done (replaced (pos 0))))
   fresh (negsuc k) = fault 30
 
-  -- "both go, the new thread's number is pushed and it joins the ready tail, its PC the entry, or −1 exactly if 32 were made"
+  -- "both go, the new thread's number is pushed and it joins the ready tail, its PC the entry, or −1 exactly if 32
+  -- were made"
   abbrev pub created : ℕ → State
   created entry =
       record {
@@ -138,7 +141,8 @@ module _ (size n : ℕ) (s : State) where
       withRegs (pushed (pos (s .regs .conditions)))
       (withMade (withCells (s .regs) (depth + 1)) (s .regs .threads) (s .regs .mutexes) (s .regs .conditions + 1))
 
-  -- "no such thread, mutex or condition": "27 for a mutex number", "32 condition, 33 thread, where 27 stood" (change request Three)
+  -- "no such thread, mutex or condition": "27 for a mutex number", "32 condition, 33 thread, where 27 stood" (change
+  -- request Three)
   abbrev pub aThread : ℤ → (ℕ → Outcome) → Outcome
   aThread v f = within v (s .regs .threads) 33 f
 
@@ -176,7 +180,8 @@ module _ (size n : ℕ) (s : State) where
   abbrev pub unlocking : ℕ → Outcome
   unlocking m = owns m (done (withTables (popped 1) (unlocked size (s .tables) m)))
 
-  -- "The thread enters the condition's queue, the condition is popped, the mutex is unlocked as above and stays on the stack, then Next."
+  -- "The thread enters the condition's queue, the condition is popped, the mutex is unlocked as above and stays on
+  -- the stack, then Next."
   abbrev pub waited : ℕ → ℕ → State
   waited c m =
       let away = left size (popped 1) (atCondition size c) in
@@ -185,11 +190,13 @@ module _ (size n : ℕ) (s : State) where
   abbrev pub waiting : ℕ → ℕ → Outcome
   waiting c m = owns m (done (waited c m))
 
-  -- Semaphores (change request Four). The lectures' bodies Down and Up (document 000) lower and raise the count, and test it, as these do. They
-  -- differ so: there a semaphore is a mutex, a condition and a cell, and each body locks the mutex first and unlocks it last, so that threads come in
-  -- the order of that lock, may wait for it even where the count is positive, and a woken one waits for it once more before its Down is over. Here
-  -- each is one step: who is first is who executes it first, and a woken thread's down is over with the up that woke it. The count is no cell that a
-  -- store could reach, 24 leaves no mutex locked, and a negative starting count, where nobody waits, is refused.
+  -- Semaphores (change request Four). The lectures' bodies Down and Up (document 000) lower and raise the count, and
+  -- test it, as these do. They differ so: there a semaphore is a mutex, a condition and a cell, and each body locks
+  -- the mutex first and unlocks it last, so that threads come in the order of that lock, may wait for it even where
+  -- the count is positive, and a woken one waits for it once more before its Down is over. Here each is one step: who
+  -- is first is who executes it first, and a woken thread's down is over with the up that woke it. The count is no
+  -- cell that a store could reach, 24 leaves no mutex locked, and a negative starting count, where nobody waits, is
+  -- refused.
 
   -- "newsema replaces its starting count on top by the next number, or by −1 exactly if 32 were made"
   abbrev pub semaphoreMade : ℤ → State
@@ -200,10 +207,12 @@ module _ (size n : ℕ) (s : State) where
   -- 30: "a negative starting count, tested before the room"
   unfoldable pub opening : ℤ → Outcome
   opening (pos starting) =
-      cond (ltb (s .regs .semaphores) (semaphoreLimit size)) (done (semaphoreMade (pos starting))) (done (replaced minusOne))
+      cond (ltb (s .regs .semaphores) (semaphoreLimit size)) (done (semaphoreMade (pos starting)))
+      (done (replaced minusOne))
   opening (negsuc k) = fault 30
 
-  -- "up pops and raises the count; if it is then not positive, the first waiter goes to the ready tail"; 24: "an up at 2,147,483,647"
+  -- "up pops and raises the count; if it is then not positive, the first waiter goes to the ready tail"; 24: "an up
+  -- at 2,147,483,647"
   abbrev pub raised : ℕ → ℤ → State
   raised k count =
       let up = withCount size (popped 1) k count in
@@ -227,12 +236,14 @@ module _ (size n : ℕ) (s : State) where
   exec instr.load = needs 1 depth (within (top size s) (shared size) 23 λ a. done (replaced (sharedCell s a)))
   exec instr.store =
       needs 2 depth
-      (within (top size s) (shared size) 23 λ a. done (withRegs (withStore s (set (s .store) a (below size s))) (withCells (s .regs) (depth - 1))))
+      (within (top size s) (shared size) 23 λ a.
+      done (withRegs (withStore s (set (s .store) a (below size s))) (withCells (s .regs) (depth - 1))))
   exec (instr.loadr k) = rooms 1 depth (frameCell k λ i. done (pushed (cell size s i)))
   exec (instr.storer k) = needs 1 depth (frameCell k λ i. done (written size s i (top size s)))
   exec (instr.alloc k) =
       rooms k depth
-      (done (withRegs (withStore s (sets (s .store) (stackAt size (s .regs .thread) depth) (replicate k (pos 0)))) (withCells (s .regs) (depth + k))))
+      (done (withRegs (withStore s (sets (s .store) (stackAt size (s .regs .thread) depth) (replicate k (pos 0))))
+      (withCells (s .regs) (depth + k))))
   exec instr.pop = needs 1 depth (done (popped 1))
   exec instr.dup = needs 1 depth (rooms 1 depth (done (pushed (top size s))))
   exec instr.add = binary _+ℤ_
@@ -253,7 +264,8 @@ module _ (size n : ℕ) (s : State) where
   exec instr.mark = rooms 1 depth (done (pushed (pos (s .regs .fp))))
   exec instr.call =
       needs 3 depth
-      (within (top size s) n 25 λ a. done (withRegs (replaced (pos (s .regs .pc))) (withPc (withFp (s .regs) (depth - 1)) a)))
+      (within (top size s) n 25 λ a.
+      done (withRegs (replaced (pos (s .regs .pc))) (withPc (withFp (s .regs) (depth - 1)) a)))
   exec instr.return = returning
   exec instr.new = needs 1 depth (fresh (top size s))
   exec instr.create = needs 2 depth creating

@@ -1,4 +1,5 @@
--- What demand 3 says of a state, with the book beside it: where each thread is, who owns each mutex, and who waits for it.
+-- What demand 3 says of a state, with the book beside it: where each thread is, who owns each mutex, and who waits
+-- for it.
 use Prim.Native.Nat.{ℕ, zero, suc, _+_, _*_, _<_, _≤_}
 use mathlib.Core.Bool.{true, cond}
 use mathlib.Core.List.{List, [], _∷_, _++_}
@@ -21,7 +22,8 @@ waitsIn tables t from (suc k) = count t (queue tables from) + waitsIn tables t (
 abbrev pub runnerOf : ℕ → State → List ℕ
 runnerOf size s = cond (eqb (s .regs .thread) size) [] (s .regs .thread ∷ [])
 
--- in how many places a thread is: running, the ready queue, and every wait queue of mutexes, conditions, semaphores and awaited threads
+-- in how many places a thread is: running, the ready queue, and every wait queue of mutexes, conditions, semaphores
+-- and awaited threads
 unfoldable pub placesOf : ℕ → State → ℕ → ℕ
 placesOf size s t = count t (runnerOf size s) + waitsIn (s .tables) t ready (1 + 6 * size)
 
@@ -35,8 +37,10 @@ pub record Fair (size : ℕ) (s : State) (book : Book) : Type 0 where
   -- the count is never over the list's length
   pub counted : (m : ℕ) → m < mutexLimit size → book .releases m ≤ length (book .names m)
   -- the names left are the owner, followed by those waiting; with none left there is no owner and nobody waits, ..
-  pub in-order : (m : ℕ) → m < mutexLimit size → namesLeft book m ≡ holderOf size (s .tables) m ++ queue (s .tables) (atMutex m)
+  pub in-order : (m : ℕ) → m < mutexLimit size → namesLeft book m
+      ≡ holderOf size (s .tables) m ++ queue (s .tables) (atMutex m)
   -- .. and with no owner nobody waits: where a name is left, the first is the owner's
   pub unawaited : (m : ℕ) → m < mutexLimit size → ownerOf (s .tables) m ≡ size → queue (s .tables) (atMutex m) ≡ []
   -- "an owner is a live thread" (change request Two)
-  pub owner-lives : (m : ℕ) → m < mutexLimit size → ownerOf (s .tables) m ≢ size → book .living (ownerOf (s .tables) m) ≡ true
+  pub owner-lives : (m : ℕ) → m < mutexLimit size → ownerOf (s .tables) m ≢ size →
+      book .living (ownerOf (s .tables) m) ≡ true

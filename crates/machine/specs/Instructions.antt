@@ -1,4 +1,5 @@
--- "Opcodes": the 41 instructions, in the paper's order (the last three are change request Four's), and the instruction that an opcode and an operand are.
+-- "Opcodes": the 41 instructions, in the paper's order (the last three are change request Four's), and the
+-- instruction that an opcode and an operand are.
 use Prim.Native.Nat.{ℕ}
 use mathlib.Core.List.{List, [], _∷_}
 use lib.IntN.{ℤ, natAbs}

@@ -1,5 +1,6 @@
--- Laws of the definitions, over every box and every call: what a call keeps, what a refusal and a fault change, what a run counts, and that none of
--- this is empty. Their proofs are in proofs/Laws.antt, proofs/RunLaws.antt and proofs/NotEmpty.antt.
+-- Laws of the definitions, over every box and every call: what a call keeps, what a refusal and a fault change, what
+-- a run counts, and that none of this is empty. Their proofs are in proofs/Laws.antt, proofs/RunLaws.antt and
+-- proofs/NotEmpty.antt.
 use Prim.Native.Nat.{ℕ, _+_, _≤_, _<_}
 use mathlib.Core.Bool.{true, false}
 use mathlib.Core.List.{List, [], _∷_, _++_}
@@ -32,8 +33,8 @@ pub record Sound (size : ℕ) (box : Box) : Type 0 where
 abbrev pub KeepsFormed : Type 0
 KeepsFormed = (size : ℕ) (call : Call) (box : Box) → Sound size box → Sound size (callOf size call box .box)
 
--- "Setting up clears the store and, whatever the lent tables held, leaves nothing made but thread 0": a set-up that isn't refused leaves one
--- definite box, which is such a box
+-- "Setting up clears the store and, whatever the lent tables held, leaves nothing made but thread 0": a set-up that
+-- isn't refused leaves one definite box, which is such a box
 abbrev pub SetUpForms : Type 0
 SetUpForms =
     (size : ℕ) (image : List ℕ) (cells : ℕ) (box : Box) →
@@ -46,8 +47,8 @@ SetUpForms =
     (setUp size image box ≡ record { answer = inState running; trace = []; box = boxOf (start size cells) })
     × Sound size (setUp size image box .box)
 
--- "Faults 20 up mark the machine faulted and change no cell, thread or queue": an instruction is carried out, which is one entry, or nothing is
--- entered and only the registers' state and fault are changed
+-- "Faults 20 up mark the machine faulted and change no cell, thread or queue": an instruction is carried out, which
+-- is one entry, or nothing is entered and only the registers' state and fault are changed
 abbrev pub FaultKeeps : Type 0
 FaultKeeps =
     (size : ℕ) (words : List ℕ) (s : State) →
@@ -84,7 +85,8 @@ RefusedSetUp =
 abbrev pub then : Called → Called → Called
 then first second = record { answer = second .answer; trace = first .trace ++ second .trace; box = second .box }
 
--- "Runs of a and then b equal one of a + b, counts added": of the calls, for every input. Where one is refused, all are refused alike.
+-- "Runs of a and then b equal one of a + b, counts added": of the calls, for every input. Where one is refused, all
+-- are refused alike.
 abbrev pub RunsAdd : Type 0
 RunsAdd =
     (size : ℕ) (image : List ℕ) (box : Box) (a b : ℕ) →
@@ -113,7 +115,8 @@ RunCounts = (size : ℕ) (words : List ℕ) (s : State) (m : ℕ) → Counted si
 pub record CallCounted (size : ℕ) (image : List ℕ) (box : Box) (m : ℕ) : Type 0 where
   pub most : countOf (runCall size image m box) ≤ m
   pub fewer : countOf (runCall size image m box) < m → runCall size image m box .answer ≢ inState running
-  pub stays : isRunning (box .regs) ≡ false → (runCall size image m box .box ≡ box) × (runCall size image m box .trace ≡ [])
+  pub stays : isRunning (box .regs) ≡ false → (runCall size image m box .box ≡ box)
+      × (runCall size image m box .trace ≡ [])
 
 abbrev pub CallCounts : Type 0
 CallCounts = (size : ℕ) (image : List ℕ) (box : Box) (m : ℕ) → CallCounted size image box m
@@ -142,7 +145,8 @@ contention = played full (runOn contended 8 ∷ runOn contended 2 ∷ []) (setUp
 abbrev pub between : Tables
 between = stateOf full (played full (runOn contended 8 ∷ []) (setUp full contended (lent full) .box) .box) .tables
 
--- a card on which a semaphore with a starting count of 1 is lowered three times, twice by others; these begin at 9 (change request Four)
+-- a card on which a semaphore with a starting count of 1 is lowered three times, twice by others; these begin at 9
+-- (change request Four)
 abbrev pub lowered : List ℕ
 lowered =
     card
@@ -153,8 +157,8 @@ lowered =
 abbrev pub awaited : State
 awaited = stateOf full (played full (runOn lowered 11 ∷ []) (setUp full lowered (lent full) .box) .box)
 
--- none of this is empty: an accepted card exists, and after a list of calls a mutex has an owner and somebody waits for it, who has it after the
--- owner's unlock; on another card two wait for a semaphore, whose count says so
+-- none of this is empty: an accepted card exists, and after a list of calls a mutex has an owner and somebody waits
+-- for it, who has it after the owner's unlock; on another card two wait for a semaphore, whose count says so
 pub record NotEmpty : Type 0 where
   pub accepted : readOf contended ≡ result.gives 1
   pub owner : ownerOf between 0 ≡ 0

@@ -1,4 +1,5 @@
--- Lists of numbers by tests: the members that pass, how often a number occurs, and a member moved to the end; and what holds of every member.
+-- Lists of numbers by tests: the members that pass, how often a number occurs, and a member moved to the end; and
+-- what holds of every member.
 use Prim.Native.Nat.{ℕ, zero, suc, _+_}
 use mathlib.Core.Bool.{Bool, true, false, cond, _&&_, _||_}
 use mathlib.Core.List.{List, [], _∷_, _++_}

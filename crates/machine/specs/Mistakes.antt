@@ -1,6 +1,7 @@
--- "Errors that look right": for each of the five a small card on which it would show, and what change requests Two to Four tell apart. One table,
--- of the same kind as the paper's sessions, in a box of three threads: none of these cards makes more, and a small box computes sooner. Where an
--- order is at stake, each thread ends with how many came before it, which shared cell 0 counts. The proof is in proofs/Sessions.antt.
+-- "Errors that look right": for each of the five a small card on which it would show, and what change requests Two to
+-- Four tell apart. One table, of the same kind as the paper's sessions, in a box of three threads: none of these
+-- cards makes more, and a small box computes sooner. Where an order is at stake, each thread ends with how many came
+-- before it, which shared cell 0 counts. The proof is in proofs/Sessions.antt.
 use Prim.Native.Nat.{ℕ}
 use mathlib.Core.List.{List, [], _∷_, _++_}
 use lib.IntN.{pos, negsuc}
@@ -33,8 +34,8 @@ leaves = number 0 ∷ unlock ∷ exit ∷ []
 
 abbrev pub mistakes : List Session
 mistakes =
-    -- 1 "Waking a condition's waiter straight past its lock: it must execute lock itself." Thread 1, from 22 on, waits for the condition; thread 0
-    -- locks the mutex, signals and yields, and comes first all the same.
+    -- 1 "Waking a condition's waiter straight past its lock: it must execute lock itself." Thread 1, from 22 on,
+    -- waits for the condition; thread 0 locks the mutex, signals and yields, and comes first all the same.
     record {
       image =
           card
@@ -43,8 +44,8 @@ mistakes =
       line = "halted 39 0\n";
       results = with 0 (pos 0) ∷ with 1 (pos 1) ∷ [];
     }
-    -- 2 "Freeing the mutex in unlock and letting the waiter try again: a third thread gets in first." Thread 1, from 21 on, waits for the mutex of
-    -- thread 0, which unlocks it and at once locks it again: thread 1 comes first.
+    -- 2 "Freeing the mutex in unlock and letting the waiter try again: a third thread gets in first." Thread 1, from
+    -- 21 on, waits for the mutex of thread 0, which unlocks it and at once locks it again: thread 1 comes first.
     ∷ record {
       image =
           card
@@ -53,7 +54,8 @@ mistakes =
       line = "halted 34 1\n";
       results = with 0 (pos 1) ∷ with 1 (pos 0) ∷ [];
     }
-    -- 3 "Signal remembered for a later wait." Nobody waits for the condition, so a wait after the signal waits for good.
+    -- 3 "Signal remembered for a later wait." Nobody waits for the condition, so a wait after the signal waits for
+    -- good.
     ∷ record {
       image = card (newmutex ∷ lock ∷ newcond ∷ signal ∷ number 0 ∷ number 0 ∷ wait ∷ []);
       line = "stuck 7\n";
@@ -62,11 +64,13 @@ mistakes =
     -- 4 "Broadcast in reverse order." Threads 1 and 2, from 12 on, wait for the condition in this order.
     ∷ record {
       image =
-          card (newmutex ∷ newcond ∷ make 12 ++ make 12 ++ (yield ∷ number 0 ∷ broadcast ∷ exit ∷ waits) ++ counts ++ leaves);
+          card (newmutex ∷ newcond ∷ make 12 ++ make 12 ++ (yield ∷ number 0 ∷ broadcast ∷ exit ∷ waits) ++ counts
+          ++ leaves);
       line = "halted 46 2\n";
       results = with 0 (pos 2) ∷ with 1 (pos 0) ∷ with 2 (pos 1) ∷ [];
     }
-    -- 5 "Giving -1 from create before testing the entry." All three threads are made, and the entry is no instruction of the card.
+    -- 5 "Giving -1 from create before testing the entry." All three threads are made, and the entry is no instruction
+    -- of the card.
     ∷ record { image = card (make 0 ++ make 0 ++ make 9); line = "fault 25 0 8 8\n"; results = [] }
     -- "A measuring thread left by exit in the middle of its locked part" (change request Two): thread 1, from 5 on
     ∷ record {
@@ -93,11 +97,13 @@ mistakes =
       line = "fault 30 0 7 7\n";
       results = [];
     }
-    -- ".. the first waiter goes to the ready tail": thread 1, from 12 on, waits for the semaphore, and thread 2, from 14 on, is ready before the up
+    -- ".. the first waiter goes to the ready tail": thread 1, from 12 on, waits for the semaphore, and thread 2, from
+    -- 14 on, is ready before the up
     ∷ record {
       image =
           card
-          (number 0 ∷ newsema ∷ make 12 ++ (yield ∷ make 14) ++ (number 0 ∷ up ∷ exit ∷ number 0 ∷ down ∷ counts) ++ exit ∷ []);
+          (number 0 ∷ newsema ∷ make 12 ++ (yield ∷ make 14) ++ (number 0 ∷ up ∷ exit ∷ number 0 ∷ down ∷ counts)
+          ++ exit ∷ []);
       line = "halted 32 2\n";
       results = with 0 (pos 2) ∷ with 1 (pos 1) ∷ with 2 (pos 0) ∷ [];
     }

@@ -1,6 +1,6 @@
--- Who gets a mutex, and when: what demand 3 says of the instructions carried out since setting up. Lock number k on a mutex (from 0) is the one whose
--- name is number k of the mutex's list. The proofs are in proofs/Traces.antt (of the book), proofs/Releases.antt, proofs/Cuts.antt and
--- proofs/Order.antt.
+-- Who gets a mutex, and when: what demand 3 says of the instructions carried out since setting up. Lock number k on a
+-- mutex (from 0) is the one whose name is number k of the mutex's list. The proofs are in proofs/Traces.antt (of the
+-- book), proofs/Releases.antt, proofs/Cuts.antt and proofs/Order.antt.
 use Prim.Native.Nat.{ℕ, suc, _≤_, _<_}
 use mathlib.Core.List.{List, [], _∷_}
 use mathlib.Core.Logic.{_≢_}
@@ -32,7 +32,8 @@ pub record Executes (trace : List Entry) (m k i : ℕ) : Type 0 where
 abbrev pub FirstLeft : Book → ℕ → ℕ → Type 0
 FirstLeft book m k = (book .releases m ≡ k) × (k < length (book .names m))
 
--- "A thread gets a mutex, and its lock completes, in the step after which that lock's name is the first left": lock number k, in instruction j
+-- "A thread gets a mutex, and its lock completes, in the step after which that lock's name is the first left": lock
+-- number k, in instruction j
 pub record Completes (trace : List Entry) (m k j : ℕ) : Type 0 where
   pub carried : j < length trace
   pub after : FirstLeft (bookAt trace (suc j)) m k
@@ -40,7 +41,8 @@ pub record Completes (trace : List Entry) (m k j : ℕ) : Type 0 where
 
 -- threads get a mutex in the order in which they executed lock on it
 pub record Ordered (size : ℕ) (trace : List Entry) : Type 0 where
-  -- every name of a mutex's list is that of a lock that was executed; locks are numbered in the order in which they were, ..
+  -- every name of a mutex's list is that of a lock that was executed; locks are numbered in the order in which they
+  -- were, ..
   pub executed : (m k j : ℕ) → k < length (bookAt trace j .names m) → (i : ℕ) × (i < j) × Executes trace m k i
   pub numbered : (m k l i j : ℕ) → Executes trace m k i → Executes trace m l j → i < j → k < l
   -- .. and a lock's name is, from then on, the thread that executed it
@@ -71,13 +73,16 @@ pub record Exclusive (trace : List Entry) : Type 0 where
   -- nobody but the one who has a mutex executes unlock or wait on it; ..
   pub by-holder : (j : ℕ) → j < length trace → Rightful (bookAt trace j) (entryAt trace j)
   -- .. until it does so, it has the mutex, ..
-  pub still-has : (m t a b : ℕ) → Has (bookAt trace a) m t → Unreleased trace m t a b → (j : ℕ) → a ≤ j → j ≤ b → Has (bookAt trace j) m t
+  pub still-has : (m t a b : ℕ) → Has (bookAt trace a) m t → Unreleased trace m t a b → (j : ℕ) → a ≤ j → j ≤ b →
+      Has (bookAt trace j) m t
   -- .. and no lock on it completes
-  pub none-completes : (m t a b : ℕ) → Has (bookAt trace a) m t → Unreleased trace m t a b → (k j : ℕ) → a ≤ j → j < b → ¬ Completes trace m k j
+  pub none-completes : (m t a b : ℕ) → Has (bookAt trace a) m t → Unreleased trace m t a b → (k j : ℕ) → a ≤ j →
+      j < b → ¬ Completes trace m k j
 
 -- the lock that is first left is the owner's, and an owned mutex has one
 pub record Owners (size : ℕ) (tables : Tables) (book : Book) : Type 0 where
-  pub first-owns : (m k : ℕ) → m < mutexLimit size → FirstLeft book m k → holderOf size tables m ≡ getD (book .names m) k 0 ∷ []
+  pub first-owns : (m k : ℕ) → m < mutexLimit size → FirstLeft book m k → holderOf size tables m
+      ≡ getD (book .names m) k 0 ∷ []
   pub owner-first : (m : ℕ) → m < mutexLimit size → ownerOf tables m ≢ size → FirstLeft book m (book .releases m)
 
 -- a list of calls, cut after j of the instructions that it carries out: the calls up to there, and those from there on

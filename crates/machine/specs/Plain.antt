@@ -1,5 +1,5 @@
--- "Well formed", read plainly: what the test of WellFormed.antt says, clause by clause. proofs/Plain.antt proves that the test passes exactly
--- where these hold.
+-- "Well formed", read plainly: what the test of WellFormed.antt says, clause by clause. proofs/Plain.antt proves that
+-- the test passes exactly where these hold.
 use Prim.Native.Nat.{ℕ, _<_, _≤_}
 use mathlib.Core.Bool.{true}
 use mathlib.Core.List.{List}
@@ -78,7 +78,8 @@ pub record Lives (size : ℕ) (tables : Tables) : Type 0 where
   pub there : who < size
   pub alive : ended < placeOf tables who
 
--- "running and faulted have a running thread, stuck has none running, none ready and a live one, halted has a running thread or no live one"
+-- "running and faulted have a running thread, stuck has none running, none ready and a live one, halted has a running
+-- thread or no live one"
 pub record Mode (size state thread : ℕ) (tables : Tables) : Type 0 where
   pub known : state ≤ 3
   pub has-thread : state ≡ running → thread ≢ size
@@ -99,6 +100,7 @@ pub record Formed (size : ℕ) (r : Registers) (tables : Tables) (values : List 
   pub free-least : 1 ≤ r .free
   pub free-most : r .free ≤ shared size
   -- "the number waiting is the larger of 0 and minus the count" (change request Four)
-  pub levels : (k : ℕ) → k < r .semaphores → length (queue tables (atSemaphore size k)) ≡ shortfall (semaphoreCount size values k)
+  pub levels : (k : ℕ) → k < r .semaphores → length (queue tables (atSemaphore size k))
+      ≡ shortfall (semaphoreCount size values k)
   pub mode : Mode size (r .state) (r .thread) tables
   pub number : Fault (r .state) (r .fault)

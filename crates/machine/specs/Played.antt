@@ -51,8 +51,8 @@ NotDamaged answer = (place : ℕ) → answer ≢ refusedBy 7 place
 abbrev pub Holds : Type 1
 Holds = List ℕ → List Call → Box → Type 0
 
--- it does so in a box of any size: for any accepted card whose global cells it has, any lent memory of the right sizes, any list of step and run
--- calls
+-- it does so in a box of any size: for any accepted card whose global cells it has, any lent memory of the right
+-- sizes, any list of step and run calls
 abbrev pub AfterCalls : ℕ → Holds → Type 0
 AfterCalls size P =
     (card : List ℕ) (cells : ℕ) (lent : Box) (calls : List Call) →

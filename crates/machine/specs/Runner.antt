@@ -46,7 +46,8 @@ abbrev pub faultLine : Report → ℕ → ℕ → List ℕ
 faultLine answer thread steps =
     line faultWord (decimal (answer .number) ∷ decimal thread ∷ decimal (answer .place) ∷ decimal steps ∷ [])
 
--- "prints one line: `halted STEPS RESULT` .., `stuck STEPS`, `fault NO THREAD PC STEPS`, `running STEPS`, or `refused NO PLACE`"
+-- "prints one line: `halted STEPS RESULT` .., `stuck STEPS`, `fault NO THREAD PC STEPS`, `running STEPS`, or `refused
+-- NO PLACE`"
 abbrev pub answerLine : ℕ → Report → ℕ → Box → List ℕ
 answerLine size answer steps box =
     cond (eqb (answer .state) halted) (line haltedWord (decimal steps ∷ resultOf size box ∷ []))
@@ -70,7 +71,8 @@ judgedPart input = take inputLimit input
 abbrev pub stepLimit : ℕ
 stepLimit = 1000000
 
--- the box that the runner lends: every cell and number 0. Any other content of these sizes gives the same line, since setting up writes all of it.
+-- the box that the runner lends: every cell and number 0. Any other content of these sizes gives the same line, since
+-- setting up writes all of it.
 abbrev pub lent : ℕ → Box
 lent size =
     record {

@@ -1,5 +1,5 @@
--- What change request Four asks to be shown of semaphores, over the same lists of calls as demand 3. The proofs are in proofs/Semaphores.antt and
--- proofs/Permitted.antt.
+-- What change request Four asks to be shown of semaphores, over the same lists of calls as demand 3. The proofs are
+-- in proofs/Semaphores.antt and proofs/Permitted.antt.
 use Prim.Native.Nat.{ℕ, suc, _<_, _≤_}
 use mathlib.Core.Bool.{cond}
 use mathlib.Core.List.{List, []}
@@ -48,11 +48,13 @@ pub record Passes (trace : List Entry) (k j l : ℕ) : Type 0 where
 -- threads pass a semaphore in the order in which they began down on it, once they have to wait
 pub record PassingInOrder (trace : List Entry) : Type 0 where
   -- the name at a down's number is, from then on, the thread that began it: so `in-order` above says who waits
-  pub named : (k j i l : ℕ) → Waits trace k j i → i < l → getD (bookAt trace l .permits .downs k) j 0 ≡ entryAt trace i .thread
+  pub named : (k j i l : ℕ) → Waits trace k j i → i < l → getD (bookAt trace l .permits .downs k) j 0
+      ≡ entryAt trace i .thread
   -- each passes by an up on that semaphore after its down, ..
   pub by-up : (k j i l : ℕ) → Waits trace k j i → Passes trace k j l → (i < l) × (entryAt trace l .event ≡ ups k)
   -- .. which lets no other pass, ..
-  pub one-by-one : (k j i h g l : ℕ) → Waits trace k j i → Waits trace k h g → Passes trace k j l → Passes trace k h l → j ≡ h
+  pub one-by-one : (k j i h g l : ℕ) → Waits trace k j i → Waits trace k h g → Passes trace k j l →
+      Passes trace k h l → j ≡ h
   -- .. and those who began sooner pass sooner: where one has passed, all have who began to wait before it
   pub ordered : (k j i h g l : ℕ) → Waits trace k j i → Waits trace k h g → i < g → Passes trace k h l →
       (e : ℕ) × (e < l) × Passes trace k j e

@@ -1,5 +1,6 @@
--- "Sessions on both sides of each limit": P1 to P14 of the paper as one table, each a card, the line that the runner prints, and what the ended
--- threads ended with. proofs/Sessions.antt computes a test over all rows, and a law turns it into what each row says.
+-- "Sessions on both sides of each limit": P1 to P14 of the paper as one table, each a card, the line that the runner
+-- prints, and what the ended threads ended with. proofs/Sessions.antt computes a test over all rows, and a law turns
+-- it into what each row says.
 use Prim.Native.Nat.{ℕ}
 use Prim.Native.String.{String}
 use mathlib.Core.Bool.{cond}
@@ -93,7 +94,8 @@ sessions =
 -- what a row says, in a box of any size: the runner prints the line, and these threads have ended, with these results
 abbrev pub Gives : ℕ → Session → Type 0
 Gives size s =
-    (runnerLine size (s .image) ≡ bytes (s .line)) × (resultsOf size (runnerCall size (judgedPart (s .image)) .box) ≡ s .results)
+    (runnerLine size (s .image) ≡ bytes (s .line))
+    × (resultsOf size (runnerCall size (judgedPart (s .image)) .box) ≡ s .results)
 
 -- all of them, in the paper's box
 abbrev pub Hold : Type 0

@@ -37,7 +37,13 @@ semaphoreCount size values k = getD values (size + k) (pos 0)
 
 -- a semaphore's count is set
 abbrev pub withCount : ℕ → State → ℕ → ℤ → State
-withCount size s k v = record { store = s .store; tables = s .tables; values = set (s .values) (size + k) v; regs = s .regs }
+withCount size s k v = record {
+  store = s .store;
+  tables = s .tables;
+  values = set (s .values)
+      (size + k) v;
+  regs = s .regs;
+}
 
 -- a shared cell
 abbrev pub sharedCell : State → ℕ → ℤ
@@ -61,7 +67,8 @@ written size s i v = withStore s (set (s .store) (stackAt size (s .regs .thread)
 
 -- "A new thread with argument v: cell 0 = v, cells 1 and 2 = −1, FP = SP = 2."
 abbrev pub newStack : ℕ → List ℤ → ℕ → ℤ → List ℤ
-newStack size store t v = set (set (set store (stackAt size t 0) v) (stackAt size t 1) minusOne) (stackAt size t 2) minusOne
+newStack size store t v = set (set (set store (stackAt size t 0) v) (stackAt size t 1) minusOne)
+    (stackAt size t 2) minusOne
 
 abbrev pub newCells : ℕ
 newCells = 3
@@ -81,7 +88,8 @@ startTables size =
       line = upTo size;
     }
 
--- "Setting up clears the store and .. leaves nothing made but thread 0, running, PC 0, argument 0; the next free shared cell is g."
+-- "Setting up clears the store and .. leaves nothing made but thread 0, running, PC 0, argument 0; the next free
+-- shared cell is g."
 unfoldable pub start : ℕ → ℕ → State
 start size cells =
     record {

@@ -1,13 +1,11 @@
 -- The lent tables: their layout, the queues, and the moves of a thread from one place to another.
 --
--- The tables are one slice of 7 × size numbers, in these regions (size is the box's number of threads):
---     places   size       where each thread is, a number as below
---     pcs      size       the saved PC of each thread
---     depths   size       the saved number of cells of each thread, SP + 1
---     frames   size       the saved FP of each thread
---     owners   2 × size   the owner of each mutex, or size where it is free
---     line     size       the threads in the order of arrival, each once
--- A queue is those of the line that are at one place, in the line's order. So a thread is in one queue at most, and no queue can be full.
+-- The tables are one slice of 7 × size numbers, in these regions (size is the box's number of threads):     places
+-- size       where each thread is, a number as below     pcs      size       the saved PC of each thread     depths
+-- size       the saved number of cells of each thread, SP + 1     frames   size       the saved FP of each thread
+-- owners   2 × size   the owner of each mutex, or size where it is free     line     size       the threads in the
+-- order of arrival, each once A queue is those of the line that are at one place, in the line's order. So a thread is
+-- in one queue at most, and no queue can be full.
 use Prim.Native.Nat.{ℕ, _+_, _*_}
 use mathlib.Core.Bool.{Bool}
 use mathlib.Core.List.{List, [], _∷_, _++_}

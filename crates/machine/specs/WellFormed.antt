@@ -1,4 +1,5 @@
--- "Well formed": each clause of the paper as a test that computes. Plain.antt has the plain reading of each, proved from it and back.
+-- "Well formed": each clause of the paper as a test that computes. Plain.antt has the plain reading of each, proved
+-- from it and back.
 use Prim.Native.Nat.{ℕ, suc, _+_, _-_, _*_}
 use mathlib.Core.Bool.{Bool, true, cond, not as negate, _&&_, _||_}
 use mathlib.Core.List.{List, [], _∷_}
@@ -46,8 +47,8 @@ allBelow bound (x ∷ xs) = ltb x bound && allBelow bound xs
 abbrev pub lineFits : ℕ → List ℕ → Bool
 lineFits size line = allBelow size line && every size (λ t. eqb (count t line) 1)
 
--- a thread that waits, waits for what is made: "free mutexes and ended threads have no waiters, .. and what isn't made yet has neither owner
--- nor waiters", semaphores too
+-- a thread that waits, waits for what is made: "free mutexes and ended threads have no waiters, .. and what isn't
+-- made yet has neither owner nor waiters", semaphores too
 abbrev pub waitFits : ℕ → Registers → Tables → ℕ → Bool
 waitFits size r tables p =
     cond (ltb p (4 + 2 * size)) (ltb (p - 4) (r .mutexes) && negate (eqb (ownerOf tables (p - 4)) size))
@@ -64,7 +65,8 @@ threadFits size r tables t =
     || (savedFits tables t
     && (isAt tables ready t || (leb 4 (placeOf tables t) && waitFits size r tables (placeOf tables t))))))
 
--- "owners are threads made, and what isn't made yet has neither owner .."; "an owner is a live thread" (change request Two)
+-- "owners are threads made, and what isn't made yet has neither owner .."; "an owner is a live thread" (change
+-- request Two)
 abbrev pub ownerFits : ℕ → Registers → Tables → ℕ → Bool
 ownerFits size r tables m =
     eqb (ownerOf tables m) size
@@ -88,7 +90,8 @@ faultFits r = cond (eqb (r .state) faulted) (isFault (r .fault)) (eqb (r .fault)
 abbrev pub anyReady : ℕ → Tables → Bool
 anyReady size tables = some size (isAt tables ready)
 
--- "running and faulted have a running thread, stuck has none running, none ready and a live one, halted has a running thread or no live one"
+-- "running and faulted have a running thread, stuck has none running, none ready and a live one, halted has a running
+-- thread or no live one"
 abbrev pub stateFits : ℕ → Registers → Tables → Bool
 stateFits size r tables =
     cond (eqb (r .thread) size)

@@ -1,4 +1,5 @@
-// Numbers of threads, mutexes, conditions and semaphores, each a type of its own: thread 3, mutex 3 and condition 3 are unrelated.
+// Numbers of threads, mutexes, conditions and semaphores, each a type of its own: thread 3, mutex 3 and condition 3
+// are unrelated.
 pub struct Thread(pub usize);
 
 pub struct Mutex(pub usize);

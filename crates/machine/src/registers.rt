@@ -5,8 +5,8 @@ ghost use Rattle.machine.specs.Registers.{advanced, stopped, switched, w
 use crate::numbers::Thread;
 use crate::states;
 
-// The order of the fields is for speed: with those that an instruction changes far apart, the compiler keeps each in a register of its own
-// instead of copying several as one block.
+// The order of the fields is for speed: with those that an instruction changes far apart, the compiler keeps each in
+// a register of its own instead of copying several as one block.
 pub struct Registers {
     // The next free shared cell.
     pub free: usize,

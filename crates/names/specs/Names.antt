@@ -11,7 +11,8 @@ use Rattle.words.specs.Words.{split}
 use Rattle.names.specs.declared.Named.{Named}
 use Rattle.names.specs.declared.Named.the-variants.{Opcode, Unknown}
 
--- "Opcodes: 0 halt, 1 loadc k, .. 37 broadcast" and "38 newsema, 39 up, 40 down": the names, in the order of their opcodes
+-- "Opcodes: 0 halt, 1 loadc k, .. 37 broadcast" and "38 newsema, 39 up, 40 down": the names, in the order of their
+-- opcodes
 unfoldable pub names : List (List ℕ)
 names =
     split 32

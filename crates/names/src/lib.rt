@@ -1,5 +1,5 @@
-// The names of the opcodes, written and read from a word, and which opcodes have an operand. Inner: the listing and the importer call
-// these functions.
+// The names of the opcodes, written and read from a word, and which opcodes have an operand. Inner: the listing and
+// the importer call these functions.
 ghost use Prim.Native.Nat.{_+_, _<_, _≤_};
 ghost use lib.ListN.{length};
 ghost use mathlib.Core.Path.{_≡_};

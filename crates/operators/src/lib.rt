@@ -1,4 +1,5 @@
-// Arithmetic and comparisons on the top of a stack. Inner: the engine calls them on a running machine, with an opcode of their own.
+// Arithmetic and comparisons on the top of a stack. Inner: the engine calls them on a running machine, with an opcode
+// of their own.
 mod comparisons;
 mod numbers;
 mod single;

@@ -1,4 +1,5 @@
--- What the public functions promise: the answer, the count, the registers and the contents of all lent slices are those of the call's definition.
+-- What the public functions promise: the answer, the count, the registers and the contents of all lent slices are
+-- those of the call's definition.
 use Prim.Native.Nat.{ℕ}
 use mathlib.Core.List.{List}
 use mathlib.Core.Path.{_≡_}

@@ -1,4 +1,5 @@
-// What a call gives back: its answer, the number of instructions carried out, and the registers. Inner: the public calls make it.
+// What a call gives back: its answer, the number of instructions carried out, and the registers. Inner: the public
+// calls make it.
 ghost use mathlib.Core.Path.{_≡_};
 ghost use Rattle.outcome.specs.Outcome.{Ends, refusal};
 ghost use Rattle.machine.specs.Calls.{answerOf, told};

@@ -1,5 +1,5 @@
-// Passing a semaphore: a count is lowered, and the thread waits where that is negative; it is raised, and the first who waits goes on. Inner: up and
-// down call these functions with the number of a semaphore that was made.
+// Passing a semaphore: a count is lowered, and the thread waits where that is negative; it is raised, and the first
+// who waits goes on. Inner: up and down call these functions with the number of a semaphore that was made.
 ghost use mathlib.Core.Bool.{cond};
 ghost use mathlib.Core.Path.{_≡_};
 ghost use Prim.Native.Nat.{_*_, _<_, _≤_};
@@ -19,7 +19,10 @@ use machine::faults;
 fn wake_unless_positive(tables: &mut [usize], size: usize, k: Semaphore, count: i32)
     requires { ⌜ Good size (now tables) ⌝ }
     requires { ⌜ k .0 < size ⌝ }
-    ensures { λ _. ⌜ Left size (now (tables .exit)) (cond (leZ count (pos 0)) (wakeFirst (tablesOf size (now (tables .entry))) (atSemaphore size (k .0))) (tablesOf size (now (tables .entry)))) ⌝ }
+    ensures { λ _.
+        ⌜ Left size (now (tables .exit)) (cond (leZ count (pos 0))
+        (wakeFirst (tablesOf size (now (tables .entry))) (atSemaphore size (k .0)))
+        (tablesOf size (now (tables .entry)))) ⌝ }
 {
     if 0 < count {
         return;
@@ -40,7 +43,9 @@ pub fn raise(
     requires { ⌜ k .0 < size ⌝ }
     requires { ⌜ r .pc < 4096 ⌝ }
     requires { ⌜ 1 ≤ r .cells ⌝ }
-    ensures { λ q. ⌜ Comes size (λ n s. raising size n s (k .0)) (now (tables .entry)) (now (values .entry)) r (now (tables .exit)) (now (values .exit)) q ⌝ }
+    ensures { λ q.
+        ⌜ Comes size (λ n s. raising size n s (k .0)) (now (tables .entry)) (now (values .entry)) r
+        (now (tables .exit)) (now (values .exit)) q ⌝ }
 {
     let Number::Value(raised) = arithmetic::add(tables::count(values, size, k), 1) else {
         return r.stop(faults::ARITHMETIC);
@@ -65,7 +70,9 @@ pub fn lower(
     requires { ⌜ r .thread < size ⌝ }
     requires { ⌜ r .pc < 4096 ⌝ }
     requires { ⌜ 1 ≤ r .cells ⌝ }
-    ensures { λ q. ⌜ Comes size (λ n s. lowering size n s (k .0)) (now (tables .entry)) (now (values .entry)) r (now (tables .exit)) (now (values .exit)) q ⌝ }
+    ensures { λ q.
+        ⌜ Comes size (λ n s. lowering size n s (k .0)) (now (tables .entry)) (now (values .entry)) r
+        (now (tables .exit)) (now (values .exit)) q ⌝ }
 {
     let lowered = tables::count(values, size, k) - 1;
     tables::set_count(values, size, k, lowered);

@@ -1,4 +1,5 @@
-// The parts of the well-formed test that ask nothing of the tables before: the registers' ranges, and the line of threads. Inner.
+// The parts of the well-formed test that ask nothing of the tables before: the registers' ranges, and the line of
+// threads. Inner.
 mod order;
 mod registers;
 

@@ -17,7 +17,9 @@ const COUNTS: usize = 2147483648;
 pub fn newsema(store: &mut [i32], values: &mut [i32], size: usize, r: Registers) -> Registers
     requires { ⌜ Able size r (length (now store)) ⌝ }
     requires { ⌜ length (now values) ≡ 2 * size ⌝ }
-    ensures { λ q. ⌜ DoesWith size newsema (now (store .entry)) (now (values .entry)) r (now (store .exit)) (now (values .exit)) q ⌝ }
+    ensures { λ q.
+        ⌜ DoesWith size newsema (now (store .entry)) (now (values .entry)) r
+        (now (store .exit)) (now (values .exit)) q ⌝ }
 {
     let cells = r.cells;
     if cells < 1 {

@@ -23,7 +23,9 @@ pub fn up(
     requires { ⌜ Good size (now tables) ⌝ }
     requires { ⌜ length (now values) ≡ 2 * size ⌝ }
     requires { ⌜ Made size r ⌝ }
-    ensures { λ q. ⌜ Changes size up (now (store .entry)) (now (tables .entry)) (now (values .entry)) r (now (store .entry)) (now (tables .exit)) (now (values .exit)) q ⌝ }
+    ensures { λ q.
+        ⌜ Changes size up (now (store .entry)) (now (tables .entry)) (now (values .entry)) r (now (store .entry))
+        (now (tables .exit)) (now (values .exit)) q ⌝ }
 {
     match a_semaphore(store, size, r) {
         ASemaphore::Fault(number) => r.stop(number),
@@ -43,7 +45,9 @@ pub fn down(
     requires { ⌜ length (now values) ≡ 2 * size ⌝ }
     requires { ⌜ Made size r ⌝ }
     requires { ⌜ ((k : ℕ) → k < r .semaphores → Low size (now values) k) ⌝ }
-    ensures { λ q. ⌜ Changes size down (now (store .entry)) (now (tables .entry)) (now (values .entry)) r (now (store .entry)) (now (tables .exit)) (now (values .exit)) q ⌝ }
+    ensures { λ q.
+        ⌜ Changes size down (now (store .entry)) (now (tables .entry)) (now (values .entry)) r
+        (now (store .entry)) (now (tables .exit)) (now (values .exit)) q ⌝ }
 {
     match a_semaphore(store, size, r) {
         ASemaphore::Fault(number) => r.stop(number),

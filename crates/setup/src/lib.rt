@@ -1,4 +1,5 @@
-// The start of a machine: what setting up leaves in the store, the tables and the values. Inner: set-up calls it on memory of the right sizes.
+// The start of a machine: what setting up leaves in the store, the tables and the values. Inner: set-up calls it on
+// memory of the right sizes.
 ghost use mathlib.Core.Path.{_≡_};
 ghost use lib.IntN.{pos};
 ghost use lib.ListN.{length, replicate};

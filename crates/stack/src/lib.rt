@@ -1,4 +1,5 @@
-// The running thread's own stack: values pushed, popped and moved on it. Inner: the engine calls them on a running machine.
+// The running thread's own stack: values pushed, popped and moved on it. Inner: the engine calls them on a running
+// machine.
 mod constants;
 mod frames;
 mod stack_ops;

@@ -1,12 +1,12 @@
-// Standard input and output of the programs, which say on standard error what can't be read or written. Inner. No contract can say which
-// bytes come and go: that of reading says that those which it counts are in the buffer.
+// Standard input and output of the programs, which say on standard error what can't be read or written. Inner. No
+// contract can say which bytes come and go: that of reading says that those which it counts are in the buffer.
 ghost use Rattle.io.specs.Counts.{Counts};
 use libc::STDERR_FILENO;
 use libc::STDIN_FILENO;
 use libc::STDOUT_FILENO;
 
-// What came of reading: so many bytes stand at the start of the buffer, and whether a read failed after them. Where none did, the input
-// has ended or the buffer is full.
+// What came of reading: so many bytes stand at the start of the buffer, and whether a read failed after them. Where
+// none did, the input has ended or the buffer is full.
 pub struct Input {
     pub length: usize,
     pub failed: bool,

@@ -21,7 +21,8 @@ pub record Left (size : ℕ) (slice : List ℕ) (tables : Tables) : Type 0 where
   pub is : tablesOf size slice ≡ tables
   pub good : Good size slice
 
--- a queue's first thread, if there is one, is taken out of it: its place is then that of the running thread, which no queue has
+-- a queue's first thread, if there is one, is taken out of it: its place is then that of the running thread, which no
+-- queue has
 abbrev pub taken : First → Tables → Tables
 taken (Waiter t) tables = sent tables (t .0) active
 taken Nobody tables = tables

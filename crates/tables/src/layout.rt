@@ -1,5 +1,5 @@
-// Where the regions of the tables start, each so many times the box's number of threads: the threads' places come first, then the saved PC,
-// number of cells and FP of each thread, the mutexes' owners, and last the line.
+// Where the regions of the tables start, each so many times the box's number of threads: the threads' places come
+// first, then the saved PC, number of cells and FP of each thread, the mutexes' owners, and last the line.
 ghost use mathlib.Core.Path.{_≡_};
 ghost use Prim.Native.Nat.{_*_, _≤_};
 ghost use Rattle.tables.specs.Start.{startAt};
@@ -23,7 +23,8 @@ pub fn line_start(size: usize) -> usize
     LINE * size
 }
 
-// Number `i` of the tables at the start: thread 0 runs, no other is made, every mutex is free, and the line is in number order.
+// Number `i` of the tables at the start: thread 0 runs, no other is made, every mutex is free, and the line is in
+// number order.
 pub fn start_at(size: usize, i: usize) -> usize
     requires { ⌜ size ≤ 32 ⌝ }
     ensures { λ r. ⌜ r ≡ startAt size i ⌝ }

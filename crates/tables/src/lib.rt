@@ -1,6 +1,6 @@
-// The lent tables and values: what stands where, and what is read and moved in them. Of the machine's crates only this one knows their layout:
-// the others name a thread, a mutex, a condition or a semaphore by its number.
-// Inner: the machine's instructions call these functions on tables that are in order.
+// The lent tables and values: what stands where, and what is read and moved in them. Of the machine's crates only
+// this one knows their layout: the others name a thread, a mutex, a condition or a semaphore by its number. Inner:
+// the machine's instructions call these functions on tables that are in order.
 mod layout;
 mod order;
 mod owners;

@@ -9,7 +9,8 @@ use crate::layout;
 use machine::First;
 use machine::Thread;
 
-// Moves the one `t` from `from` on to the end of the slice. It walks back from the end, so that what stands before `t` is not read.
+// Moves the one `t` from `from` on to the end of the slice. It walks back from the end, so that what stands before
+// `t` is not read.
 fn to_end(tables: &mut [usize], from: usize, t: usize)
     requires { ⌜ from ≤ length (now tables) ⌝ }
     requires { ⌜ count t (drop from (now tables)) ≡ 1 ⌝ }

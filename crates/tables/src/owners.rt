@@ -11,7 +11,8 @@ use machine::Owner;
 use machine::Thread;
 use machine::sizes;
 
-// Any number but that of nobody counts as a thread's: the test of a well-formed state asks whether that thread was made.
+// Any number but that of nobody counts as a thread's: the test of a well-formed state asks whether that thread was
+// made.
 fn owner_at(size: usize, number: usize) -> Owner
     ensures { λ o. ⌜ o ≡ ownerAt size number ⌝ }
 {
@@ -44,7 +45,9 @@ pub fn owner(tables: &[usize], size: usize, m: Mutex) -> Owner
 pub fn own(tables: &mut [usize], size: usize, m: Mutex, owner: Owner)
     requires { ⌜ Good size (now tables) ⌝ }
     requires { ⌜ m .0 < 2 * size ⌝ }
-    ensures { λ _. ⌜ Left size (now (tables .exit)) (owned (tablesOf size (now (tables .entry))) (m .0) (numberOf size owner)) ⌝ }
+    ensures { λ _.
+        ⌜ Left size
+        (now (tables .exit)) (owned (tablesOf size (now (tables .entry))) (m .0) (numberOf size owner)) ⌝ }
 {
     let at = m.0;
     tables[layout::OWNERS * size + at] = number_of(size, owner);

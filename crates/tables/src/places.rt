@@ -16,8 +16,8 @@ pub const RUNNING: usize = 2;
 
 pub const READY: usize = 3;
 
-// The queues of mutexes come first, then those of conditions, of semaphores and of the threads' ends: each kind starts so many times the
-// box's number of threads after the first.
+// The queues of mutexes come first, then those of conditions, of semaphores and of the threads' ends: each kind
+// starts so many times the box's number of threads after the first.
 pub const FIRST_QUEUE: usize = 4;
 
 const CONDITIONS: usize = 2;

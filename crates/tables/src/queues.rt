@@ -9,7 +9,8 @@ use crate::places::RUNNING;
 use machine::First;
 use machine::Thread;
 
-// Takes the first waiter out of a queue: it is where a running thread is, in no queue, and who takes it runs it or sends it on.
+// Takes the first waiter out of a queue: it is where a running thread is, in no queue, and who takes it runs it or
+// sends it on.
 pub fn dequeue(tables: &mut [usize], size: usize, from: usize) -> First
     requires { ⌜ Good size (now tables) ⌝ }
     ensures { λ r. ⌜ Dequeued size (now (tables .entry)) from r (now (tables .exit)) ⌝ }

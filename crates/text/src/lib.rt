@@ -1,4 +1,5 @@
-// Text in a lent buffer: each function writes from byte `at` on and answers the byte after its text. Inner: the callers see to the room.
+// Text in a lent buffer: each function writes from byte `at` on and answers the byte after its text. Inner: the
+// callers see to the room.
 ghost use Prim.Native.Nat.{_+_, _<_, _≤_};
 ghost use lib.ListN.{length};
 ghost use mathlib.Core.List.{[], _∷_};

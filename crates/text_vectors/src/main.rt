@@ -1,6 +1,6 @@
-// Imports texts and prints what comes of each: the image in hexadecimal, or the refusal. They stand on standard input (at most 65,536
-// bytes), a line each: a label, a colon, a space and the text, in which `/` stands for a line feed, `~` for a carriage return and `>` for
-// a tab. A line without a colon is a remark, and is printed as it is.
+// Imports texts and prints what comes of each: the image in hexadecimal, or the refusal. They stand on standard input
+// (at most 65,536 bytes), a line each: a label, a colon, a space and the text, in which `/` stands for a line feed,
+// `~` for a carriage return and `>` for a tab. A line without a colon is a remark, and is printed as it is.
 ghost use Prim.Native.Nat.{_≤_};
 ghost use lib.ListN.{length};
 use libc::STDIN_FILENO;

@@ -16,8 +16,10 @@ use Rattle.threads.specs.declared.number.AThread.{AThread}
 use Rattle.threads.specs.declared.number.AThread.the-variants.{Made, Fault}
 
 -- tables and registers go as a definition says, for every store and values, and the tables stay in order
-pub record Goes (size : ℕ) (f : State → State) (tables : List ℕ) (r : Registers) (tables′ : List ℕ) (q : Registers) : Type 0 where
-  pub is : (store values : List ℤ) → at store (tablesOf size tables′) values q ≡ f (at store (tablesOf size tables) values r)
+pub record Goes (size : ℕ) (f : State → State) (tables : List ℕ) (r : Registers)
+    (tables′ : List ℕ) (q : Registers) : Type 0 where
+  pub is : (store values : List ℤ) → at store (tablesOf size tables′) values q
+      ≡ f (at store (tablesOf size tables) values r)
   pub good : Good size tables′
 
 -- the thread that top names: 33 where it is none of those made

@@ -35,7 +35,9 @@ fn make_thread(
     requires { ⌜ Good size (now tables) ⌝ }
     ensures { λ t. ⌜ t .0 ≡ made ⌝ }
     ensures { λ _. ⌜ now (store .exit) ≡ newStack size (now (store .entry)) made v ⌝ }
-    ensures { λ _. ⌜ Left size (now (tables .exit)) (sent (saved (tablesOf size (now (tables .entry))) made entry newCells newFp) made ready) ⌝ }
+    ensures { λ _.
+        ⌜ Left size (now (tables .exit))
+        (sent (saved (tablesOf size (now (tables .entry))) made entry newCells newFp) made ready) ⌝ }
 {
     let t = Thread(made);
     new_stack(store, size, t, v);
@@ -54,7 +56,9 @@ pub fn create(
 ) -> Registers
     requires { ⌜ Able size r (length (now store)) ⌝ }
     requires { ⌜ Good size (now tables) ⌝ }
-    ensures { λ q. ⌜ ActsIn size n create (now (store .entry)) (now (tables .entry)) r (now (store .exit)) (now (tables .exit)) q ⌝ }
+    ensures { λ q.
+        ⌜ ActsIn size n create (now (store .entry)) (now (tables .entry)) r
+        (now (store .exit)) (now (tables .exit)) q ⌝ }
 {
     let cells = r.cells;
     if cells < 2 {

@@ -19,7 +19,8 @@ use machine::states;
 // With nobody ready: halted if no thread lives, else stuck.
 fn idle(tables: &[usize], size: usize, r: Registers) -> Registers
     requires { ⌜ Good size (now tables) ⌝ }
-    ensures { λ q. ⌜ q ≡ withState r (cond (anyLive size (tablesOf size (now (tables .entry)))) stuck halted) (nobody size) ⌝ }
+    ensures { λ q.
+        ⌜ q ≡ withState r (cond (anyLive size (tablesOf size (now (tables .entry)))) stuck halted) (nobody size) ⌝ }
 {
     if tables::any_live(tables, size) {
         r.with_state(states::STUCK, size)

@@ -1,4 +1,5 @@
-// Whether lent tables fit the registers. Inner, but the engine asks it of whatever it was lent, so nothing is required of the contents.
+// Whether lent tables fit the registers. Inner, but the engine asks it of whatever it was lent, so nothing is
+// required of the contents.
 ghost use mathlib.Core.Path.{_≡_};
 ghost use Prim.Native.Nat.{_≤_};
 ghost use Rattle.machine.specs.WellFormed.{tablesFit, wellFormed};

@@ -19,7 +19,8 @@ abbrev pub onto : ℕ → List (List ℕ) → List (List ℕ)
 onto b [] = (b ∷ []) ∷ []
 onto b (part ∷ parts) = (b ∷ part) ∷ parts
 
--- the parts between separators, of which there is one more than there are separators: two in a row have an empty part between them
+-- the parts between separators, of which there is one more than there are separators: two in a row have an empty part
+-- between them
 unfoldable pub split : ℕ → List ℕ → List (List ℕ)
 split sep [] = [] ∷ []
 split sep (b ∷ rest) = cond (eqb b sep) ([] ∷ split sep rest) (onto b (split sep rest))

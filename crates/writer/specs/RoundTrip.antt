@@ -20,7 +20,8 @@ WrittenIsRead =
     let image = take size (bufferOf (gives size) cells list buffer) in
     (readOf image ≡ gives cells) × (wordsOf (codeOf image) ≡ list)
 
--- for every image that the reader accepts, the writer, given its global cells and its instructions, writes that image, byte for byte
+-- for every image that the reader accepts, the writer, given its global cells and its instructions, writes that
+-- image, byte for byte
 abbrev pub ReadIsWritten : Type 0
 ReadIsWritten =
     (cells : ℕ) (image buffer : List ℕ) → Each 256 image → length image ≤ length buffer →

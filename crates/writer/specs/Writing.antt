@@ -1,4 +1,5 @@
--- "The writer takes g and a list of instructions and tests 3, then the list (place: index), then 8; bytes past the image stay."
+-- "The writer takes g and a list of instructions and tests 3, then the list (place: index), then 8; bytes past the
+-- image stay."
 use Prim.Native.Nat.{ℕ, _+_, _*_}
 use mathlib.Core.Bool.{cond, _||_}
 use mathlib.Core.List.{List, [], _∷_, _++_}
@@ -32,7 +33,8 @@ abbrev pub afterList : Scan → Result → Result
 afterList (Bad number index) rest = refuses number index
 afterList Fine rest = rest
 
--- the writer, which gives the image's size, for a buffer with so much room. Number 8: "writer's buffer under 9 + 4n bytes"
+-- the writer, which gives the image's size, for a buffer with so much room. Number 8: "writer's buffer under 9 + 4n
+-- bytes"
 unfoldable pub writeOf : ℕ → List ℕ → ℕ → Result
 writeOf cells list room =
     cond (outOfRange cells || outOfRange (length list)) (refuses 3 5)
