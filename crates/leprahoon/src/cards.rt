@@ -1,41 +1,11 @@
 // The reader, the writer and the runner's line on buffers that a C program lends.
 ghost use mathlib.Core.Path.{_≡_};
 ghost use Rattle.card.specs.Image.{readOf};
-ghost use Rattle.card.specs.Image as reading;
-ghost use Rattle.card.specs.Result.{reportOf, valueOf};
-ghost use Rattle.line.specs.Line as line;
-ghost use Rattle.writer.specs.Writing as writing;
+ghost use Rattle.card.specs.Result.{reportOf};
 ghost use Rattle.leprahoon.specs.Lists.{PrintsLine, WroteList};
-use card::Reading;
-use line::Line;
-use writer::Writing;
-
-fn list_of_reading(r: Reading) -> [usize; 3]
-    ensures { λ l. ⌜ l ≡ reportOf (reading.told r) ⌝ }
-{
-    match r {
-        Reading::Accepted { cells } => [0, 0, cells as usize],
-        Reading::Refused { number, place } => [number as usize, place, 0],
-    }
-}
-
-fn list_of_writing(w: Writing) -> [usize; 3]
-    ensures { λ l. ⌜ l ≡ reportOf (writing.told w) ⌝ }
-{
-    match w {
-        Writing::Written { size } => [0, 0, size],
-        Writing::Refused { number, place } => [number as usize, place, 0],
-    }
-}
-
-fn length_of(l: Line) -> usize
-    ensures { λ n. ⌜ n ≡ valueOf (line.told l) ⌝ }
-{
-    match l {
-        Line::Written { length } => length,
-        Line::NoRoom => 0,
-    }
-}
+use lists::length_of;
+use lists::list_of_reading;
+use lists::list_of_writing;
 
 // Judges a card: the number and place of its refusal, or its global cells.
 #[no_mangle]

@@ -1,30 +1,7 @@
 // A card's text and the way back, on buffers that a C program lends.
-ghost use mathlib.Core.Path.{_≡_};
-ghost use Rattle.card.specs.Result.{reportOf};
-ghost use Rattle.importer.specs.Importing as importing;
-ghost use Rattle.lister.specs.Listing as listing;
 ghost use Rattle.leprahoon.specs.Lists.{ImportedList, ListedList};
-use importer::Importing;
-use lister::Listing;
-
-fn list_of_listing(l: Listing) -> [usize; 3]
-    ensures { λ r. ⌜ r ≡ reportOf (listing.told l) ⌝ }
-{
-    match l {
-        Listing::Written { length } => [0, 0, length],
-        Listing::Past => [0, 0, 0],
-        Listing::Refused { number, place } => [number as usize, place, 0],
-    }
-}
-
-fn list_of_importing(i: Importing) -> [usize; 3]
-    ensures { λ r. ⌜ r ≡ reportOf (importing.told i) ⌝ }
-{
-    match i {
-        Importing::Imported { size } => [0, 0, size],
-        Importing::Refused { number, place } => [number as usize, place, 0],
-    }
-}
+use lists::list_of_importing;
+use lists::list_of_listing;
 
 // Writes a line of a card's text: line 0 is the header, line i + 1 that of instruction i.
 #[no_mangle]

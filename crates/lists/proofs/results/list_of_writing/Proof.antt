@@ -1,7 +1,7 @@
--- `leprahoon::cards::list_of_writing` meets its contract. Assumes nothing.
+-- `lists::results::list_of_writing` meets its contract. Assumes nothing.
 use borrow.Author.Needs.{needs}
-use Rattle.leprahoon.proofs.cards.list_of_writing.Statement.{statement}
-use Rattle.leprahoon.proofs.cards.list_of_writing.Tie as tie
+use Rattle.lists.proofs.results.list_of_writing.Statement.{statement}
+use Rattle.lists.proofs.results.list_of_writing.Tie as tie
 
 enum-known-w : tie.Need-enum-known-w
 enum-known-w c = search needs

@@ -1,7 +1,7 @@
--- `lists::report_of` meets its contract. Assumes nothing.
+-- `lists::registers::report_of` meets its contract. Assumes nothing.
 use borrow.Author.Needs.{needs}
-use Rattle.lists.proofs.report_of.Statement.{statement}
-use Rattle.lists.proofs.report_of.Tie as tie
+use Rattle.lists.proofs.registers.report_of.Statement.{statement}
+use Rattle.lists.proofs.registers.report_of.Tie as tie
 
 enum-told : tie.Need-enum-told
 enum-told c = search needs

@@ -1,7 +1,7 @@
--- `leprahoon::texts::list_of_listing` meets its contract. Assumes nothing.
+-- `lists::results::list_of_listing` meets its contract. Assumes nothing.
 use borrow.Author.Needs.{needs}
-use Rattle.leprahoon.proofs.texts.list_of_listing.Statement.{statement}
-use Rattle.leprahoon.proofs.texts.list_of_listing.Tie as tie
+use Rattle.lists.proofs.results.list_of_listing.Statement.{statement}
+use Rattle.lists.proofs.results.list_of_listing.Tie as tie
 
 enum-known-l : tie.Need-enum-known-l
 enum-known-l c = search needs

@@ -1,7 +1,7 @@
--- `leprahoon::cards::list_of_reading` meets its contract. Assumes nothing.
+-- `lists::results::list_of_reading` meets its contract. Assumes nothing.
 use borrow.Author.Needs.{needs}
-use Rattle.leprahoon.proofs.cards.list_of_reading.Statement.{statement}
-use Rattle.leprahoon.proofs.cards.list_of_reading.Tie as tie
+use Rattle.lists.proofs.results.list_of_reading.Statement.{statement}
+use Rattle.lists.proofs.results.list_of_reading.Tie as tie
 
 enum-known-r : tie.Need-enum-known-r
 enum-known-r c = search needs

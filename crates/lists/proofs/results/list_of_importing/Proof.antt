@@ -1,7 +1,7 @@
--- `leprahoon::texts::list_of_importing` meets its contract. Assumes nothing.
+-- `lists::results::list_of_importing` meets its contract. Assumes nothing.
 use borrow.Author.Needs.{needs}
-use Rattle.leprahoon.proofs.texts.list_of_importing.Statement.{statement}
-use Rattle.leprahoon.proofs.texts.list_of_importing.Tie as tie
+use Rattle.lists.proofs.results.list_of_importing.Statement.{statement}
+use Rattle.lists.proofs.results.list_of_importing.Tie as tie
 
 enum-known-i : tie.Need-enum-known-i
 enum-known-i c = search needs
