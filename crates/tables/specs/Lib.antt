@@ -1,4 +1,5 @@
 pub mod Good
+pub mod Idle
 pub mod Owners
 pub mod Places
 pub mod Start

@@ -11,6 +11,7 @@ mod values;
 
 pub use layout::line_start;
 pub use layout::start_at;
+pub use order::first_living;
 pub use order::send;
 pub use order::waiting;
 pub use owners::own;

@@ -5,7 +5,9 @@ ghost use lib.ListN.{drop, length};
 ghost use Rattle.machine.specs.Lists.{count};
 ghost use Rattle.machine.specs.Tables.{first, queue, sent, tablesOf};
 ghost use Rattle.tables.specs.Good.{Good, Left, endMoved};
+ghost use Rattle.tables.specs.Idle.{Idle};
 use crate::layout;
+use crate::places::ENDED;
 use machine::First;
 use machine::Thread;
 
@@ -47,6 +49,24 @@ fn in_line(size: usize, k: usize) -> usize
     ensures { λ i. ⌜ i ≡ 6 * size + k ⌝ }
 {
     layout::LINE * size + k
+}
+
+// How many at the front of the line don't live, if `skip` of them are known not to: where a search may start.
+pub fn first_living(tables: &[usize], size: usize, skip: usize) -> usize
+    requires { ⌜ Good size (now tables) ⌝ }
+    requires { ⌜ Idle (tablesOf size (now tables)) skip ⌝ }
+    ensures { λ r. ⌜ Idle (tablesOf size (now (tables .entry))) r ⌝ }
+{
+    let mut k = skip;
+    while k < size {
+        let i = in_line(size, k);
+        let t = tables[i];
+        if ENDED < tables[t] {
+            return k;
+        }
+        k += 1;
+    }
+    k
 }
 
 // The first of the line that is at a place.
