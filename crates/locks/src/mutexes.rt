@@ -80,7 +80,7 @@ pub fn unlock_mutex(tables: &mut [usize], size: usize, m: Mutex)
     requires { ⌜ m .0 < 2 * size ⌝ }
     ensures { λ _. ⌜ Left size (now (tables .exit)) (unlocked size (tablesOf size (now (tables .entry))) (m .0)) ⌝ }
 {
-    let First::Waiter(t) = tables::dequeue(tables, size, tables::at_mutex(m)) else {
+    let First::Waiter(t) = tables::dequeue(tables, size, tables::at_mutex(m), 0) else {
         tables::own(tables, size, m, Owner::Nobody);
         return;
     };

@@ -185,10 +185,6 @@ module _ (size : ℕ) (l : List ℕ) (g : Good size l) where
   unfolding queue
   queue-start place = let all : 6 * size + 0 ≡ 6 * size = omega arith in rw (all, line-is)
 
-  pub search-start : (place : ℕ) → first (tablesOf size l) place ≡ searched size l place 0
-  unfolding first
-  search-start place = ap firstOf (queue-start place)
-
   module _ (place k i : ℕ) (below : k < size) (e : i ≡ 6 * size + k) where
     -- whether entry k is at a place
     at-entry : isAt (tablesOf size l) place (getD l i 0) ≡ eqb (getD l (getD l i 0) 0) place

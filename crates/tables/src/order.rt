@@ -5,7 +5,7 @@ ghost use lib.ListN.{drop, length};
 ghost use Rattle.machine.specs.Lists.{count};
 ghost use Rattle.machine.specs.Tables.{first, queue, sent, tablesOf};
 ghost use Rattle.tables.specs.Good.{Good, Left, endMoved};
-ghost use Rattle.tables.specs.Idle.{Idle};
+ghost use Rattle.tables.specs.Idle.{Behind, Idle};
 use crate::layout;
 use crate::places::ENDED;
 use machine::First;
@@ -69,12 +69,13 @@ pub fn first_living(tables: &[usize], size: usize, skip: usize) -> usize
     k
 }
 
-// The first of the line that is at a place.
-pub fn find(tables: &[usize], size: usize, place: usize) -> First
+// The first of the line that is at a place. None of the first `skip` is there, so they are not looked at.
+pub fn find(tables: &[usize], size: usize, place: usize, skip: usize) -> First
     requires { ⌜ Good size (now tables) ⌝ }
+    requires { ⌜ Behind (tablesOf size (now tables)) place skip ⌝ }
     ensures { λ r. ⌜ r ≡ first (tablesOf size (now (tables .entry))) place ⌝ }
 {
-    let mut k = 0;
+    let mut k = skip;
     while k < size {
         let i = in_line(size, k);
         let t = tables[i];

@@ -2,6 +2,7 @@
 ghost use Prim.Native.Nat.{_<_};
 ghost use Rattle.machine.specs.Tables.{ready, sent, tablesOf, wakeAll, wakeFirst};
 ghost use Rattle.tables.specs.Good.{Dequeued, Good, Left};
+ghost use Rattle.tables.specs.Idle.{Behind};
 use crate::order::find;
 use crate::order::send;
 use crate::places::READY;
@@ -10,12 +11,13 @@ use machine::First;
 use machine::Thread;
 
 // Takes the first waiter out of a queue: it is where a running thread is, in no queue, and who takes it runs it or
-// sends it on.
-pub fn dequeue(tables: &mut [usize], size: usize, from: usize) -> First
+// sends it on. The search starts behind the first `skip` of the line.
+pub fn dequeue(tables: &mut [usize], size: usize, from: usize, skip: usize) -> First
     requires { ⌜ Good size (now tables) ⌝ }
+    requires { ⌜ Behind (tablesOf size (now tables)) from skip ⌝ }
     ensures { λ r. ⌜ Dequeued size (now (tables .entry)) from r (now (tables .exit)) ⌝ }
 {
-    let found = find(tables, size, from);
+    let found = find(tables, size, from, skip);
     let First::Waiter(t) = found else {
         return First::Nobody;
     };
@@ -37,7 +39,7 @@ pub fn wake_first(tables: &mut [usize], size: usize, from: usize)
     requires { ⌜ Good size (now tables) ⌝ }
     ensures { λ _. ⌜ Left size (now (tables .exit)) (wakeFirst (tablesOf size (now (tables .entry))) from) ⌝ }
 {
-    let First::Waiter(t) = dequeue(tables, size, from) else {
+    let First::Waiter(t) = dequeue(tables, size, from, 0) else {
         return;
     };
     make_ready(tables, size, t);
@@ -50,7 +52,7 @@ pub fn wake_all(tables: &mut [usize], size: usize, from: usize)
     ensures { λ _. ⌜ Left size (now (tables .exit)) (wakeAll (tablesOf size (now (tables .entry))) from) ⌝ }
 {
     loop {
-        let First::Waiter(t) = dequeue(tables, size, from) else {
+        let First::Waiter(t) = dequeue(tables, size, from, 0) else {
             return;
         };
         make_ready(tables, size, t);

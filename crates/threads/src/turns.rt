@@ -34,7 +34,7 @@ pub fn next(tables: &mut [usize], size: usize, r: Registers) -> Registers
     requires { ⌜ Good size (now tables) ⌝ }
     ensures { λ q. ⌜ Goes size (next size) (now (tables .entry)) r (now (tables .exit)) q ⌝ }
 {
-    let First::Waiter(t) = tables::dequeue(tables, size, tables::READY) else {
+    let First::Waiter(t) = tables::dequeue(tables, size, tables::READY, 0) else {
         return idle(tables, size, r);
     };
     let pc = tables::saved_pc(tables, size, t);

@@ -24,12 +24,12 @@ returns c =
     let nobody = c .enum-told .given .1 in
     record {
       found = sym nobody ∙ c .before .before .find .ensures;
-      left = record { is = refl; good = c .before .before .before .before .before .pre };
+      left = record { is = refl; good = c .before .before .before .before .before .pre .0 };
       real = λ t e. absurd (let z : _≡_ {A = ℕ} 0 1 = cc in omega arith);
     }
 
 send-requires : tie.Need-send-requires
-send-requires c κs = (c .before .before .before .before .before .before .before .pre, found-real _ _ (c .before .before .before .before .before .before .before .pre) _ _ (sym (c .before .before .before .before .find .ensures) ∙ c .before .before .found .given .1))
+send-requires c κs = (c .before .before .before .before .before .before .before .pre .0, found-real _ _ (c .before .before .before .before .before .before .before .pre .0) _ _ (sym (c .before .before .before .before .find .ensures) ∙ c .before .before .found .given .1))
 
 same-length-2 : tie.Need-same-length-2
 same-length-2 c = search needs
@@ -40,7 +40,7 @@ returns-2 c =
     record {
       found = sym waiter ∙ c .before .before .before .before .before .before .before .find .ensures;
       left = c .before .before .send .ensures;
-      real = λ t e. found-real _ _ (c .before .before .before .before .before .before .before .before .before .before .pre) _ _ (sym (c .before .before .before .before .before .before .before .find .ensures) ∙ waiter ∙ e);
+      real = λ t e. found-real _ _ (c .before .before .before .before .before .before .before .before .before .before .pre .0) _ _ (sym (c .before .before .before .before .before .before .before .find .ensures) ∙ waiter ∙ e);
     }
 
 pub dequeue-spec : {M : Type 1} → statement M

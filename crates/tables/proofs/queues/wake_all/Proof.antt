@@ -18,7 +18,7 @@ loop-holds : tie.Need-loop-holds Inv-loop μ-loop
 loop-holds c = (c .before .pre .0, refl, refl)
 
 dequeue-requires : tie.Need-dequeue-requires Inv-loop μ-loop
-dequeue-requires c κs = c .before .loop .inv .0
+dequeue-requires c κs = (c .before .loop .inv .0, tt)
 
 enum-known-t : tie.Need-enum-known-t Inv-loop μ-loop
 enum-known-t c = search needs
