@@ -59,8 +59,8 @@ fn wait_for(
     // When it is woken it goes on after wait, with the mutex on top: at the card's own lock.
     let away = cells::popped(r);
     let gone = threads::leave(tables, size, away, tables::at_condition(size, c));
-    unlock_mutex(tables, size, m);
-    threads::next(tables, size, gone)
+    unlock_mutex(tables, size, m, 0);
+    threads::next(tables, size, gone, 0)
 }
 
 pub fn wait(store: &[i32], tables: &mut [usize], size: usize, r: Registers) -> Registers

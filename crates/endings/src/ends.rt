@@ -32,7 +32,7 @@ pub fn finish(
     tables::set_result(values, t, v);
     tables::wake_all(tables, size, tables::at_end(size, t));
     tables::send(tables, size, t, tables::ENDED);
-    next(tables, size, r.with_state(r.state, size))
+    next(tables, size, r.with_state(r.state, size), 0)
 }
 
 // A thread that owns a mutex can't end: nobody could unlock it then.
@@ -74,7 +74,7 @@ pub fn join(store: &[i32], tables: &mut [usize], size: usize, r: Registers) -> R
             if tables::has_ended(tables, size, t) {
                 return r.advance();
             }
-            block(tables, size, r.advance(), tables::at_end(size, t))
+            block(tables, size, r.advance(), tables::at_end(size, t), 0)
         }
     }
 }

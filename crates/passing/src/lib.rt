@@ -78,7 +78,7 @@ pub fn lower(
     tables::set_count(values, size, k, lowered);
     let after = cells::popped(r);
     if lowered < 0 {
-        return threads::block(tables, size, after, tables::at_semaphore(size, k));
+        return threads::block(tables, size, after, tables::at_semaphore(size, k), 0);
     }
     after
 }

@@ -1,2 +1,3 @@
 pub mod Creating
 pub mod Ready
+pub mod Idle

@@ -10,6 +10,7 @@ ghost use Rattle.machine.specs.State.{blocked, left, next};
 ghost use Rattle.machine.specs.Tables.{anyLive, tablesOf};
 ghost use Rattle.cells.specs.Contract.{Acts};
 ghost use Rattle.tables.specs.Good.{Good};
+ghost use Rattle.tables.specs.Idle.{Idle, IdleAfter};
 ghost use Rattle.threads.specs.Contract.{Goes};
 use machine::First;
 use machine::Registers;
@@ -29,12 +30,13 @@ fn idle(tables: &[usize], size: usize, r: Registers) -> Registers
     }
 }
 
-// The first of the ready queue runs.
-pub fn next(tables: &mut [usize], size: usize, r: Registers) -> Registers
+// The first of the ready queue runs. None of the first `skip` of the line is ready, as they don't live.
+pub fn next(tables: &mut [usize], size: usize, r: Registers, skip: usize) -> Registers
     requires { ⌜ Good size (now tables) ⌝ }
+    requires { ⌜ Idle (tablesOf size (now tables)) skip ⌝ }
     ensures { λ q. ⌜ Goes size (next size) (now (tables .entry)) r (now (tables .exit)) q ⌝ }
 {
-    let First::Waiter(t) = tables::dequeue(tables, size, tables::READY, 0) else {
+    let First::Waiter(t) = tables::dequeue(tables, size, tables::READY, skip) else {
         return idle(tables, size, r);
     };
     let pc = tables::saved_pc(tables, size, t);
@@ -56,21 +58,29 @@ pub fn leave(tables: &mut [usize], size: usize, r: Registers, place: usize) -> R
 }
 
 // The running thread waits at a place, and the next one runs.
-pub fn block(tables: &mut [usize], size: usize, r: Registers, place: usize) -> Registers
+pub fn block(
+    tables: &mut [usize],
+    size: usize,
+    r: Registers,
+    place: usize,
+    skip: usize,
+) -> Registers
     requires { ⌜ Good size (now tables) ⌝ }
     requires { ⌜ r .thread < size ⌝ }
+    requires { ⌜ IdleAfter (tablesOf size (now tables)) (r .thread) skip ⌝ }
     ensures { λ q. ⌜ Goes size (λ s. blocked size s place) (now (tables .entry)) r (now (tables .exit)) q ⌝ }
 {
     let gone = leave(tables, size, r, place);
-    next(tables, size, gone)
+    next(tables, size, gone, skip)
 }
 
 // The instruction yield, a word that the language keeps.
-pub fn yield_turn(tables: &mut [usize], size: usize, r: Registers) -> Registers
+pub fn yield_turn(tables: &mut [usize], size: usize, r: Registers, skip: usize) -> Registers
     requires { ⌜ Good size (now tables) ⌝ }
     requires { ⌜ r .thread < size ⌝ }
     requires { ⌜ r .pc < 4096 ⌝ }
+    requires { ⌜ IdleAfter (tablesOf size (now tables)) (r .thread) skip ⌝ }
     ensures { λ q. ⌜ ((store : List ℤ) → Acts size yield store (now (tables .entry)) r store (now (tables .exit)) q) ⌝ }
 {
-    block(tables, size, r.advance(), tables::READY)
+    block(tables, size, r.advance(), tables::READY, skip)
 }

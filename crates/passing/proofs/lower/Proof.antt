@@ -38,7 +38,7 @@ at-semaphore-requires : tie.Need-at-semaphore-requires
 at-semaphore-requires c κs = search needs
 
 block-requires : tie.Need-block-requires
-block-requires c κs = rw (c .before .before .before .popped .ensures) (c .before .before .before .before .before .before .before .before .before .before .pre .0, c .before .before .before .before .before .before .before .before .before .before .pre .1 .1 .1 .1 .0)
+block-requires c κs = rw (c .before .before .before .popped .ensures) (c .before .before .before .before .before .before .before .before .before .before .pre .0, (c .before .before .before .before .before .before .before .before .before .before .pre .1 .1 .1 .1 .0, λ place. tt))
 
 same-length : tie.Need-same-length
 same-length c = search needs

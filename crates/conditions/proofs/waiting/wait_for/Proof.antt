@@ -36,7 +36,7 @@ leave-requires : tie.Need-leave-requires
 leave-requires c κs = rw (c .before .before .popped .ensures) (c .before .before .before .before .before .before .before .pre .1 .0, c .before .before .before .before .before .before .before .pre .0 .thread)
 
 unlock-mutex-requires : tie.Need-unlock-mutex-requires
-unlock-mutex-requires c κs = let mutex = passed _ _ _ _ _ _ _ (c .before .before .before .before .before .before .before .before .before .before .before .pre .1 .1 .1 .1) in (c .before .before .before .leave .ensures .good, omega (arith, mutex .below, c .before .before .before .before .before .before .before .before .before .before .before .pre .1 .1 .0 .mutexes))
+unlock-mutex-requires c κs = let mutex = passed _ _ _ _ _ _ _ (c .before .before .before .before .before .before .before .before .before .before .before .pre .1 .1 .1 .1) in (c .before .before .before .leave .ensures .good, (omega (arith, mutex .below, c .before .before .before .before .before .before .before .before .before .before .before .pre .1 .1 .0 .mutexes), tt))
 
 next-requires : tie.Need-next-requires
 next-requires c κs = search needs

@@ -42,7 +42,7 @@ at-end-requires : tie.Need-at-end-requires
 at-end-requires c κs = let there = passed _ _ _ _ _ _ _ (c .before .before .before .before .before .before .before .before .a-thread .ensures ∙ ap threadNamed (c .before .before .before .before .before .before .t .given .1)) in (c .before .before .before .before .before .before .before .before .before .before .pre .0 .small, omega (arith, there .below, c .before .before .before .before .before .before .before .before .before .before .pre .1 .1 .threads))
 
 block-requires : tie.Need-block-requires
-block-requires c κs = rw (c .before .advance2 .ensures) (c .before .before .before .before .before .before .before .before .before .before .before .pre .1 .0, c .before .before .before .before .before .before .before .before .before .before .before .pre .0 .thread)
+block-requires c κs = rw (c .before .advance2 .ensures) (c .before .before .before .before .before .before .before .before .before .before .before .pre .1 .0, (c .before .before .before .before .before .before .before .before .before .before .before .pre .0 .thread, λ place. tt))
 
 returns-2 : tie.Need-returns-2
 returns-2 c n values = rw (c .stop .ensures) (faults _ n _ _ _ (join-is _ n _ ∙ stops _ _ _ _ _ _ _ _ (c .before .before .before .before .a-thread .ensures ∙ ap threadNamed (c .before .before .number .given .1))))

@@ -27,7 +27,7 @@ popped-requires : tie.Need-popped-requires
 popped-requires c κs = let there = passed _ _ _ _ _ _ _ (c .before .before .before .a-mutex .ensures ∙ ap mutexNamed (c .before .m .given .1)) in (c .before .before .before .before .before .pre .0 .pc, there .enough)
 
 owner-requires : tie.Need-owner-requires
-owner-requires c κs = let there = passed _ _ _ _ _ _ _ (c .before .before .before .before .before .a-mutex .ensures ∙ ap mutexNamed (c .before .before .before .m .given .1)) in (c .before .before .before .before .before .before .before .pre .1 .0, omega (arith, there .below, c .before .before .before .before .before .before .before .pre .1 .1 .mutexes))
+owner-requires c κs = let there = passed _ _ _ _ _ _ _ (c .before .before .before .before .before .a-mutex .ensures ∙ ap mutexNamed (c .before .before .before .m .given .1)) in (c .before .before .before .before .before .before .before .pre .1 .0, omega (arith, there .below, c .before .before .before .before .before .before .before .pre .1 .1 .0 .mutexes))
 
 enum-told : tie.Need-enum-told
 enum-told c = search needs
@@ -36,10 +36,10 @@ enum-told-2 : tie.Need-enum-told-2
 enum-told-2 c = search needs
 
 at-mutex-requires : tie.Need-at-mutex-requires
-at-mutex-requires c κs = let there = passed _ _ _ _ _ _ _ (c .before .before .before .before .before .before .before .before .before .a-mutex .ensures ∙ ap mutexNamed (c .before .before .before .before .before .before .before .m .given .1)) in omega (arith, there .below, c .before .before .before .before .before .before .before .before .before .before .before .pre .1 .1 .mutexes, c .before .before .before .before .before .before .before .before .before .before .before .pre .0 .small)
+at-mutex-requires c κs = let there = passed _ _ _ _ _ _ _ (c .before .before .before .before .before .before .before .before .before .a-mutex .ensures ∙ ap mutexNamed (c .before .before .before .before .before .before .before .m .given .1)) in omega (arith, there .below, c .before .before .before .before .before .before .before .before .before .before .before .pre .1 .1 .0 .mutexes, c .before .before .before .before .before .before .before .before .before .before .before .pre .0 .small)
 
 block-requires : tie.Need-block-requires
-block-requires c κs = rw (c .before .before .before .before .before .before .popped .ensures) (c .before .before .before .before .before .before .before .before .before .before .before .before .pre .1 .0, c .before .before .before .before .before .before .before .before .before .before .before .before .pre .0 .thread)
+block-requires c κs = rw (c .before .before .before .before .before .before .popped .ensures) (c .before .before .before .before .before .before .before .before .before .before .before .before .pre .1 .0, (c .before .before .before .before .before .before .before .before .before .before .before .before .pre .0 .thread, c .before .before .before .before .before .before .before .before .before .before .before .before .pre .1 .1 .1))
 
 same-length : tie.Need-same-length
 same-length c = search needs
@@ -50,7 +50,7 @@ returns c n values =
     ∙ carries _ n _ _ _ (lock-is _ n _ ∙ goes-on _ _ _ _ _ _ _ _ (c .before .before .before .before .before .before .before .before .before .before .before .before .before .a-mutex .ensures ∙ ap mutexNamed (c .before .before .before .before .before .before .before .before .before .before .before .m .given .1)) ∙ rw (ne-eqb _ _ (held _ _ _ (sym (c .before .before .before .before .before .before .before .owner .ensures) ∙ c .before .before .before .before .before .enum-told2 .given .1) .taken)))
 
 own-requires : tie.Need-own-requires
-own-requires c κs = let there = passed _ _ _ _ _ _ _ (c .before .before .before .before .before .before .before .before .before .a-mutex .ensures ∙ ap mutexNamed (c .before .before .before .before .before .before .before .m .given .1)) in (c .before .before .before .before .before .before .before .before .before .before .before .pre .1 .0, omega (arith, there .below, c .before .before .before .before .before .before .before .before .before .before .before .pre .1 .1 .mutexes))
+own-requires c κs = let there = passed _ _ _ _ _ _ _ (c .before .before .before .before .before .before .before .before .before .a-mutex .ensures ∙ ap mutexNamed (c .before .before .before .before .before .before .before .m .given .1)) in (c .before .before .before .before .before .before .before .before .before .before .before .pre .1 .0, omega (arith, there .below, c .before .before .before .before .before .before .before .before .before .before .before .pre .1 .1 .0 .mutexes))
 
 returns-2 : tie.Need-returns-2
 returns-2 c n values = rw (c .stop .ensures) (faults _ n _ _ _ (lock-is _ n _ ∙ stops _ _ _ _ _ _ _ _ (c .before .before .before .before .a-mutex .ensures ∙ ap mutexNamed (c .before .before .number .given .1))))

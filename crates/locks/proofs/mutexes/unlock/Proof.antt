@@ -23,7 +23,7 @@ enum-known-m : tie.Need-enum-known-m
 enum-known-m c = search needs
 
 owns-requires : tie.Need-owns-requires
-owns-requires c κs = let there = passed _ _ _ _ _ _ _ (c .before .before .before .before .a-mutex .ensures ∙ ap mutexNamed (c .before .before .m .given .1)) in (c .before .before .before .before .before .before .pre .1 .0, (c .before .before .before .before .before .before .pre .0 .thread, omega (arith, there .below, c .before .before .before .before .before .before .pre .1 .1 .mutexes)))
+owns-requires c κs = let there = passed _ _ _ _ _ _ _ (c .before .before .before .before .a-mutex .ensures ∙ ap mutexNamed (c .before .before .m .given .1)) in (c .before .before .before .before .before .before .pre .1 .0, (c .before .before .before .before .before .before .pre .0 .thread, omega (arith, there .below, c .before .before .before .before .before .before .pre .1 .1 .0 .mutexes)))
 
 stop-requires-2 : tie.Need-stop-requires-2
 stop-requires-2 c κs = search needs
@@ -37,7 +37,7 @@ returns c n values =
     (faults _ n _ _ 28 (unlock-is _ n _ ∙ goes-on _ _ _ _ _ _ _ _ (c .before .before .before .before .before .before .before .a-mutex .ensures ∙ ap mutexNamed (c .before .before .before .before .before .m .given .1)) ∙ owns-not _ _ _ _ _ (sym (c .before .before .owns .ensures) ∙ not-true _ (c .before .if1 .taken))))
 
 unlock-mutex-requires : tie.Need-unlock-mutex-requires
-unlock-mutex-requires c κs = let there = passed _ _ _ _ _ _ _ (c .before .before .before .before .before .before .before .a-mutex .ensures ∙ ap mutexNamed (c .before .before .before .before .before .m .given .1)) in (c .before .before .before .before .before .before .before .before .before .pre .1 .0, omega (arith, there .below, c .before .before .before .before .before .before .before .before .before .pre .1 .1 .mutexes))
+unlock-mutex-requires c κs = let there = passed _ _ _ _ _ _ _ (c .before .before .before .before .before .before .before .a-mutex .ensures ∙ ap mutexNamed (c .before .before .before .before .before .m .given .1)) in (c .before .before .before .before .before .before .before .before .before .pre .1 .0, (omega (arith, there .below, c .before .before .before .before .before .before .before .before .before .pre .1 .1 .0 .mutexes), c .before .before .before .before .before .before .before .before .before .pre .1 .1 .1))
 
 popped-requires : tie.Need-popped-requires
 popped-requires c κs = let there = passed _ _ _ _ _ _ _ (c .before .before .before .before .before .before .before .before .before .before .a-mutex .ensures ∙ ap mutexNamed (c .before .before .before .before .before .before .before .before .m .given .1)) in (c .before .before .before .before .before .before .before .before .before .before .before .before .pre .0 .pc, there .enough)

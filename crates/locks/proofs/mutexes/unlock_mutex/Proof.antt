@@ -1,5 +1,8 @@
 -- `locks::mutexes::unlock_mutex` meets its contract. Assumes nothing.
+use native.Mathlib.Omega.{arith}
 use borrow.Author.Needs.{needs}
+use Rattle.machine.specs.Tables.{atMutex}
+use Rattle.tables.proofs.Idle.{idle-behind}
 use Rattle.tables.proofs.Waking.{took-first, took-tables}
 use Rattle.locks.proofs.Owners.{freed, passed-on}
 use Rattle.locks.proofs.mutexes.unlock_mutex.Statement.{statement}
@@ -9,7 +12,7 @@ at-mutex-requires : tie.Need-at-mutex-requires
 at-mutex-requires c κs = search needs
 
 dequeue-requires : tie.Need-dequeue-requires
-dequeue-requires c κs = search needs
+dequeue-requires c κs = rw (c .at-mutex .ensures) (c .before .before .before .pre .0, idle-behind _ (atMutex (c .before .before .before .args .m .0)) (c .before .before .before .args .skip) (c .before .before .before .pre .1 .1) (omega arith))
 
 enum-known-t : tie.Need-enum-known-t
 enum-known-t c = search needs

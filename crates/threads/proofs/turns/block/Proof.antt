@@ -2,6 +2,7 @@
 use borrow.Author.Needs.{needs}
 use mathlib.Core.Path.{ap, _∙_}
 use Rattle.machine.specs.State.{next}
+use Rattle.threads.proofs.Idle.{idle-gone}
 use Rattle.threads.proofs.turns.block.Statement.{statement}
 use Rattle.threads.proofs.turns.block.Tie as tie
 
@@ -9,7 +10,7 @@ leave-requires : tie.Need-leave-requires
 leave-requires c κs = search needs
 
 next-requires : tie.Need-next-requires
-next-requires c κs = search needs
+next-requires c κs = (c .before .before .before .leave .ensures .good, idle-gone _ (c .before .before .before .before .before .before .args .skip) _ _ _ _ _ (c .before .before .before .leave .ensures) (c .before .before .before .before .before .before .pre .1 .1))
 
 same-length : tie.Need-same-length
 same-length c = search needs

@@ -1,12 +1,15 @@
 -- `threads::turns::next` meets its contract. Assumes nothing.
+use native.Mathlib.Omega.{arith}
 use borrow.Author.Needs.{needs}
+use Rattle.machine.specs.Tables.{ready}
+use Rattle.tables.proofs.Idle.{idle-behind}
 use Rattle.tables.proofs.Waking.{took-first, took-tables}
 use Rattle.threads.proofs.Ready.{first-runs, nobody-runs}
 use Rattle.threads.proofs.turns.next.Statement.{statement}
 use Rattle.threads.proofs.turns.next.Tie as tie
 
 dequeue-requires : tie.Need-dequeue-requires
-dequeue-requires c κs = search needs
+dequeue-requires c κs = (c .before .before .pre .0, idle-behind _ ready (c .before .before .args .skip) (c .before .before .pre .1) (omega arith))
 
 enum-known-t : tie.Need-enum-known-t
 enum-known-t c = search needs

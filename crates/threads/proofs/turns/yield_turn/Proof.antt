@@ -9,7 +9,7 @@ advance-requires : tie.Need-advance-requires
 advance-requires c κs = search needs
 
 block-requires : tie.Need-block-requires
-block-requires c κs = rw (c .advance .ensures) (c .before .before .before .pre .0, c .before .before .before .pre .1 .0)
+block-requires c κs = rw (c .advance .ensures) (c .before .before .before .pre .0, (c .before .before .before .pre .1 .0, c .before .before .before .pre .1 .1 .1))
 
 same-length : tie.Need-same-length
 same-length c = search needs
