@@ -1,18 +1,15 @@
 -- An operation on two 32-bit numbers, computed in 64 bits: the result fits, and is the operation's own. Assumes nothing.
-use Prim.Native.Nat.{ℕ, zero, suc, _+_, _*_, _/_, _^_, _≤_, _<_}
+use Prim.Native.Nat.{ℕ, zero, suc, _+_, _*_, _^_, _≤_, _<_}
 use mathlib.Core.Path.{_≡_, refl, _∙_}
-use native.Mathlib.Nat.{div-le-self, le-refl, mul-le-mul}
+use native.Mathlib.Nat.{le-refl, mul-le-mul}
 use native.Mathlib.Omega.{arith}
 use native.Mathlib.Decide.{decLt}
 use borrow.Author.Tests.{lt-ltb, le-ltb}
 use lib.IntN.{ℤ, pos, negsuc, natAbs, negℤ, subℕ, _+ℤ_, _-ℤ_, _*ℤ_}
-use lib.Signed.{mag, mag-rem, natAbs-le, quotZ, remZ}
+use lib.Signed.{mag, natAbs-le}
 use mir.Syntax.{w32, w64}
 use mir.Val.{SFits, ofZ, toZ}
-use mir.ValLaws.{sfits-le}
 use mir.Facts.{sfits-widen, toZ-ofZ}
-use Rattle.arithmetic.specs.Arithmetic.{narrowed}
-use Rattle.arithmetic.specs.declared.Number.{Number}
 
 -- ---- the sizes of results
 
@@ -36,12 +33,6 @@ size-product (pos a) (pos b) = refl
 size-product (pos a) (negsuc b) = size-neg (pos (a * suc b))
 size-product (negsuc a) (pos b) = size-neg (pos (suc a * b))
 size-product (negsuc a) (negsuc b) = refl
-
-size-quotient : (a b : ℤ) → natAbs (quotZ a b) ≡ natAbs a / natAbs b
-size-quotient (pos a) (pos b) = refl
-size-quotient (pos a) (negsuc b) = size-neg (pos (a / suc b))
-size-quotient (negsuc a) (pos b) = size-neg (pos (suc a / b))
-size-quotient (negsuc a) (negsuc b) = refl
 
 -- ---- an operation's result fits 64 bits
 
@@ -68,12 +59,6 @@ difference a b f g = fits (a -ℤ b) (omega (arith, size-sum a (negℤ b), size-
 pub product : Fitting _*ℤ_
 product a b f g = fits (a *ℤ b) (rw (size-product a b) (mul-le-mul (size f) (size g)))
 
-pub quotient : Fitting quotZ
-quotient a b f g = fits (quotZ a b) (omega (arith, size-quotient a b, div-le-self (natAbs a) (natAbs b), size f))
-
-pub remainder : Fitting remZ
-remainder a b f g = sfits-widen tt (sfits-le (mag-rem a b) f)
-
 -- ---- what the machine computes
 
 pub cast-fits : {a : ℤ} → SFits w32 a → SFits w64 (toZ w32 (ofZ w32 a))
@@ -90,15 +75,6 @@ module _ (f : ℤ → ℤ → ℤ) (h : Fitting f) {a b : ℤ} (fa : SFits w32 a
   pub result-fits : SFits w64 (f (widened a) (widened b))
   result-fits = rw (widened-is fa, widened-is fb) (h a b fa fb)
 
-  -- an answer on what the machine computed is the answer on the operation's result
-  pub answers : {r : Number} → r ≡ narrowed (toZ w64 (ofZ w64 (f (widened a) (widened b)))) → r ≡ narrowed (f a b)
-  answers e = rw (toZ-ofZ result-fits, widened-is fa, widened-is fb) at e
-
-divisor : {b : ℤ} → SFits w32 b → (b ≡ pos 0 → ⊥) → 0 < ofZ w64 b
-divisor {b = pos zero} f h = absurd (h refl)
-divisor {b = pos (suc n)} f h = omega arith
-divisor {b = negsuc n} f h = omega (arith, f .sfits)
-
--- what a division asks, and a remainder too: a divisor whose bits are not 0, and a quotient that fits
-pub divides : {a b : ℤ} → SFits w32 a → SFits w32 b → (b ≡ pos 0 → ⊥) → (0 < ofZ w64 (toZ w32 (ofZ w32 b))) × SFits w64 (quotZ (widened a) (widened b))
-divides f g h = (rw (toZ-ofZ g) (divisor g h), result-fits quotZ quotient f g)
+  -- what the machine computed is the operation's result
+  pub computes : toZ w64 (ofZ w64 (f (widened a) (widened b))) ≡ f a b
+  computes = rw (toZ-ofZ result-fits, widened-is fa, widened-is fb)

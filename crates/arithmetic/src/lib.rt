@@ -1,66 +1,63 @@
-// Checked arithmetic of cells: 32-bit signed numbers, computed in 64 bits and narrowed once, at the end.
+// Arithmetic of cells, 32-bit signed numbers: every result exactly, in 64 bits, and one test whether it is a cell.
 // Inner: the machine's instructions call these functions.
 ghost use mathlib.Core.Path.{_≡_};
 ghost use mathlib.Core.Bool.{cond};
+ghost use lib.Dec.{ltb};
 ghost use lib.IntN.{natAbs, pos, negℤ, _+ℤ_, _-ℤ_, _*ℤ_};
-ghost use lib.Signed.{leZ, ltZ, quotZ, remZ};
-ghost use Rattle.arithmetic.specs.Arithmetic.{eqZ, narrowed};
+ghost use lib.Signed.{leZ, ltZ, mag, quotZ, remZ};
+ghost use Rattle.arithmetic.specs.Arithmetic.{eqZ};
 
-// What an operation answers.
-pub enum Number {
-    Value(i32),
-    // The result is beyond 32 bits.
-    Beyond,
+// Whether a result is a cell's value. `mag` is n both for n and for -(n + 1), so one bound is both ends of the range.
+pub fn fits(v: i64) -> bool
+    ensures { λ b. ⌜ b ≡ ltb (mag v) 2147483648 ⌝ }
+{
+    -2147483648 <= v && v <= 2147483647
 }
 
-fn narrow(v: i64) -> Number
-    ensures { λ r. ⌜ r ≡ narrowed v ⌝ }
+pub fn sum(a: i32, b: i32) -> i64
+    ensures { λ r. ⌜ r ≡ a +ℤ b ⌝ }
 {
-    if -2147483648 <= v && v <= 2147483647 {
-        Number::Value(v as i32)
-    } else {
-        Number::Beyond
+    a as i64 + b as i64
+}
+
+pub fn difference(a: i32, b: i32) -> i64
+    ensures { λ r. ⌜ r ≡ a -ℤ b ⌝ }
+{
+    a as i64 - b as i64
+}
+
+pub fn product(a: i32, b: i32) -> i64
+    ensures { λ r. ⌜ r ≡ a *ℤ b ⌝ }
+{
+    a as i64 * b as i64
+}
+
+pub fn negated(a: i32) -> i64
+    ensures { λ r. ⌜ r ≡ negℤ a ⌝ }
+{
+    -(a as i64)
+}
+
+// Rounded toward zero. In 32 bits, which is faster; -1 is apart, since the least number has no quotient by it there.
+pub fn quotient(a: i32, b: i32) -> i64
+    requires { ⌜ (b ≡ pos 0 → ⊥) ⌝ }
+    ensures { λ r. ⌜ r ≡ quotZ a b ⌝ }
+{
+    if b == -1 {
+        return negated(a);
     }
+    (a / b) as i64
 }
 
-pub fn add(a: i32, b: i32) -> Number
-    ensures { λ r. ⌜ r ≡ narrowed (a +ℤ b) ⌝ }
-{
-    narrow(a as i64 + b as i64)
-}
-
-pub fn sub(a: i32, b: i32) -> Number
-    ensures { λ r. ⌜ r ≡ narrowed (a -ℤ b) ⌝ }
-{
-    narrow(a as i64 - b as i64)
-}
-
-pub fn mul(a: i32, b: i32) -> Number
-    ensures { λ r. ⌜ r ≡ narrowed (a *ℤ b) ⌝ }
-{
-    narrow(a as i64 * b as i64)
-}
-
-// Rounded toward zero. The least number by -1 is 2^31, which 64 bits hold, so it needs no case of its own.
-pub fn div(a: i32, b: i32) -> Number
+// With the sign of `a`. -1 is apart, as it is in `quotient`.
+pub fn remainder(a: i32, b: i32) -> i64
     requires { ⌜ (b ≡ pos 0 → ⊥) ⌝ }
-    ensures { λ r. ⌜ r ≡ narrowed (quotZ a b) ⌝ }
+    ensures { λ r. ⌜ r ≡ remZ a b ⌝ }
 {
-    narrow(a as i64 / b as i64)
-}
-
-// With the sign of `a`.
-pub fn rem(a: i32, b: i32) -> Number
-    requires { ⌜ (b ≡ pos 0 → ⊥) ⌝ }
-    ensures { λ r. ⌜ r ≡ narrowed (remZ a b) ⌝ }
-{
-    narrow(a as i64 % b as i64)
-}
-
-pub fn neg(a: i32) -> Number
-    ensures { λ r. ⌜ r ≡ narrowed (negℤ a) ⌝ }
-{
-    narrow(-(a as i64))
+    if b == -1 {
+        return 0;
+    }
+    (a % b) as i64
 }
 
 // A cell without its sign.

@@ -1,7 +1,9 @@
 -- The instructions of a card as words, four bytes each, and the first bad one of them.
-use Prim.Native.Nat.{ℕ, suc, _*_}
+use Prim.Native.Nat.{ℕ, suc, _*_, _<_, _≤_}
 use mathlib.Core.List.{List, [], _∷_}
+use mathlib.Core.Path.{_≡_}
 use lib.IntN.{ℤ}
+use lib.ListN.{getD, length}
 use Rattle.instruction.specs.Bytes.{wordAt}
 use Rattle.instruction.specs.Rules.{checkOf}
 use Rattle.instruction.specs.Word.{opcodeOf, operandOf}
@@ -26,6 +28,12 @@ instructionAt code at =
       opcode = opcodeOf (wordAt code (4 * at));
       operand = operandOf (wordAt code (4 * at));
     }
+
+-- the first k of a code part's n instructions stand in a list of words, and k is n or 0
+pub record Unpacked (code : List ℕ) (n : ℕ) (words : List ℕ) (k : ℕ) : Type 0 where
+  pub all : 1 ≤ k → k ≡ n
+  pub long : k ≤ length words
+  pub word : (i : ℕ) → i < k → getD words i 0 ≡ wordAt code (4 * i)
 
 -- number 4, "4 now from opcode 41", and number 5, "operand against its rule"
 abbrev pub scanOf : Verdict → ℕ → Scan

@@ -6,6 +6,7 @@ mod scan;
 
 pub use fetching::Instruction;
 pub use fetching::fetch;
+pub use fetching::unpack;
 pub use reader::Reading;
 pub use reader::code_part;
 pub use reader::last_of;

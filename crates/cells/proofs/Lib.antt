@@ -1,3 +1,4 @@
+pub mod Tried
 pub mod Tests
 pub mod Names
 pub mod Opened

@@ -1,3 +1,4 @@
 pub mod Contract
+pub mod Attempts
 pub mod Openings
 pub mod Top

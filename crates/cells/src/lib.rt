@@ -1,10 +1,13 @@
 // The cells of the store, and the one range check of the machine. Inner: the instructions use them on a running
 // machine.
+mod attempts;
 mod cells;
 mod index;
 mod openings;
 mod top;
 
+pub use attempts::past;
+pub use attempts::settled;
 pub use cells::peek;
 pub use cells::poke;
 pub use cells::read;

@@ -6,15 +6,18 @@ ghost use Rattle.machine.specs.Calls.{boxed, runCall, stepCall};
 ghost use Rattle.machine.specs.Size.{full};
 use card::Reading;
 use machine::Registers;
+use machine::sizes;
 use outcome::Outcome;
 use outcome::ended;
 use outcome::refused;
 
+// The card is unpacked into `words`, where there is room for it; else each instruction is taken from the image.
 fn run_box(
     image: &[u8],
     store: &mut [i32],
     tables: &mut [usize],
     values: &mut [i32],
+    words: &mut [u32],
     size: usize,
     r: Registers,
     m: usize,
@@ -37,7 +40,8 @@ fn run_box(
             // The card was read, so its code part is what follows the header.
             let code = &image[9..];
             let n = code.len() / 4;
-            let p = engine::run(code, store, tables, values, size, n, r, m);
+            let k = card::unpack(code, n, words);
+            let p = engine::run(code, words, store, tables, values, size, n, k, r, m);
             ended(p.registers, p.count)
         }
     }
@@ -56,7 +60,9 @@ pub fn step(
         (boxed (now (store .entry)) (now (tables .entry)) (now (values .entry)) r)) o
         (now (store .exit)) (now (tables .exit)) (now (values .exit)) ⌝ }
 {
-    run_box(image, store, tables, values, 32, r, 1)
+    // Unpacking the card would cost more than its one instruction.
+    let mut words = [0; 0];
+    run_box(image, store, tables, values, &mut words, 32, r, 1)
 }
 
 // A run of `m` steps, which stops early when the machine does.
@@ -73,5 +79,6 @@ pub fn run(
         (boxed (now (store .entry)) (now (tables .entry)) (now (values .entry)) r)) o
         (now (store .exit)) (now (tables .exit)) (now (values .exit)) ⌝ }
 {
-    run_box(image, store, tables, values, 32, r, m)
+    let mut words = [0; sizes::INSTRUCTIONS];
+    run_box(image, store, tables, values, &mut words, 32, r, m)
 }

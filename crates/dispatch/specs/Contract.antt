@@ -1,6 +1,7 @@
 -- What an instruction asks.
 use Prim.Native.Nat.{ℕ, _*_, _<_}
 use mathlib.Core.List.{List}
+use mathlib.Core.Logic.{_≢_}
 use mathlib.Core.Path.{_≡_}
 use lib.IntN.{ℤ}
 use lib.ListN.{length}
@@ -17,3 +18,7 @@ pub record Working (size : ℕ) (r : Registers) (cells : ℕ) (tables : List ℕ
   pub valued : length values ≡ 2 * size
   -- no more threads wait for a semaphore than there are
   pub low : (k : ℕ) → k < r .semaphores → Low size values k
+
+-- the opcodes of all instructions but yield, lock and unlock
+abbrev pub Others : ℕ → Type 0
+Others opcode = (opcode ≢ 27) × ((opcode ≢ 32) × (opcode ≢ 33))

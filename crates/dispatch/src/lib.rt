@@ -1,11 +1,14 @@
-// The dispatcher: the instruction of each opcode that is not one of the running thread alone. Inner: the engine calls
-// it on a running machine.
+// The dispatcher: the instruction of each opcode but those that the engine takes beside its loop, yield, lock and
+// unlock. Inner: the engine calls it on a running machine.
 ghost use Prim.Native.Nat.{_≤_};
 ghost use lib.ListN.{length};
 ghost use Rattle.cells.specs.Contract.{ChangesIn};
-ghost use Rattle.dispatch.specs.Contract.{Working};
-ghost use Rattle.local.specs.Contract.{Others, Permitted};
+ghost use Rattle.dispatch.specs.Contract.{Others, Working};
+ghost use Rattle.local.specs.Contract.{Permitted};
 ghost use Rattle.machine.specs.Instructions.{instructionOf};
+use cells::past;
+use cells::settled;
+use local::natural;
 use machine::Registers;
 
 pub fn execute(
@@ -19,26 +22,47 @@ pub fn execute(
     operand: i32,
 ) -> Registers
     requires { ⌜ Working size r (length (now store)) (now tables) (now values) ⌝ }
-    requires { ⌜ Permitted opcode operand ⌝ }
+    requires { ⌜ Permitted n opcode operand ⌝ }
     requires { ⌜ Others opcode ⌝ }
     requires { ⌜ opcode ≤ 40 ⌝ }
     ensures { λ q.
         ⌜ ChangesIn size n (instructionOf opcode operand) (now (store .entry)) (now (tables .entry))
         (now (values .entry)) r (now (store .exit)) (now (tables .exit)) (now (values .exit)) q ⌝ }
 {
+    let t = r.thread;
+    let c = past(r);
     match opcode {
         0 => control::halt(r),
-        6 => stack::alloc(store, size, r, local::natural(operand)),
+        1 => settled(r, stack::loadc(store, size, t, c, operand)),
+        2 => settled(r, shared::load(store, size, t, c)),
+        3 => settled(r, shared::store_cell(store, size, t, c)),
+        4 => settled(r, stack::loadr(store, size, t, c, operand)),
+        5 => settled(r, stack::storer(store, size, t, c, operand)),
+        6 => stack::alloc(store, size, r, natural(operand)),
+        7 => settled(r, stack::pop(c)),
+        8 => settled(r, stack::dup(store, size, t, c)),
+        9 => settled(r, operators::binary(store, size, t, c, 9)),
+        10 => settled(r, operators::binary(store, size, t, c, 10)),
+        11 => settled(r, operators::binary(store, size, t, c, 11)),
+        12 => settled(r, operators::binary(store, size, t, c, 12)),
+        13 => settled(r, operators::binary(store, size, t, c, 13)),
+        14 => settled(r, operators::neg(store, size, t, c)),
+        15 => settled(r, operators::compare(store, size, t, c, 15)),
+        16 => settled(r, operators::compare(store, size, t, c, 16)),
+        17 => settled(r, operators::compare(store, size, t, c, 17)),
+        18 => settled(r, operators::compare(store, size, t, c, 18)),
+        19 => settled(r, operators::not(store, size, t, c)),
+        20 => settled(r, control::jump(c, natural(operand))),
+        21 => settled(r, control::jumpz(store, size, t, c, natural(operand), n)),
+        22 => settled(r, stack::mark(store, size, t, c)),
+        23 => settled(r, control::call(store, size, t, c, n)),
         24 => endings::return_from(store, tables, values, size, r, n),
         25 => shared::fresh(store, size, r),
         26 => threads::create(store, tables, size, r, n),
-        27 => threads::yield_turn(tables, size, r, 0),
         28 => endings::exit(store, tables, values, size, r),
         29 => endings::join(store, tables, size, r),
         30 => endings::finalize(store, tables, values, size, r),
         31 => locks::newmutex(store, size, r),
-        32 => locks::lock(store, tables, size, r, 0),
-        33 => locks::unlock(store, tables, size, r, 0),
         34 => conditions::newcond(store, size, r),
         35 => conditions::wait(store, tables, size, r),
         36 => conditions::signal(store, tables, size, r),

@@ -3,13 +3,14 @@ use Prim.Native.Nat.{ℕ, suc, _+_, _-_, _<_, _≤_}
 use mathlib.Core.Path.{_≡_, refl, sym, ap, _∙_}
 use mathlib.Core.Bool.{cond}
 use mathlib.Core.List.{List, [], _++_, append-assoc, append-nil}
-use mathlib.Core.Logic.{_≢_}
+use mathlib.Core.Logic.{_⊎_, inl, inr, _≢_}
 use native.Mathlib.Omega.{arith}
 use lib.Dec.{eqb}
 use lib.IntN.{ℤ}
 use lib.ListN.{length, length-append}
 use borrow.Author.Tests.{eq-eqb, ne-eqb}
-use Rattle.card.specs.Code.{wordsOf}
+use Rattle.card.specs.Code.{instructionAt, wordsOf}
+use Rattle.dispatch.specs.Contract.{Others}
 use Rattle.engine.specs.Contract.{Carded, Carries, Course, Under, stateAt}
 use Rattle.engine.proofs.Working.{words-of}
 use Rattle.machine.specs.Calls.{boxed}
@@ -117,19 +118,74 @@ module _ (size : ℕ) (code : List ℕ) (n : ℕ) (card : Carded code n) (store 
       1 ≡ length (carried size (wordsOf code) (stateAt size store tables values r) .trace)
   tells-done store′ tables′ values′ q is e = rw (ne-eqb _ _ e) at (tells store′ tables′ values′ q is)
 
--- a run under way in lent slices that are as long as they were
-pub record Going (size : ℕ) (code : List ℕ) (m : ℕ) (store₀ : List ℤ) (tables₀ : List ℕ) (values₀ : List ℤ) (r₀ : Registers) (store : List ℤ) (tables : List ℕ) (values : List ℤ) (r : Registers) (count : ℕ) : Type 0 where
-  pub under : Under size code m store₀ tables₀ values₀ r₀ store tables values r count
+-- a run under way in lent slices
+module _ (size : ℕ) (code : List ℕ) (n : ℕ) (card : Carded code n) (m : ℕ) (store₀ : List ℤ) (tables₀ : List ℕ) (values₀ : List ℤ) (r₀ : Registers) where
+  -- it begins
+  pub entered : Sound size (boxed store₀ tables₀ values₀ r₀) → Under size code m store₀ tables₀ values₀ r₀ store₀ tables₀ values₀ r₀ m
+  entered h =
+      let none : m - m ≡ 0 = omega arith in
+      record { within = omega arith; sound = h; course = rw none (begun size (wordsOf code) (stateAt size store₀ tables₀ values₀ r₀) m) }
+
+  module _ (store : List ℤ) (tables : List ℕ) (values : List ℤ) (r : Registers) (left : ℕ) (u : Under size code m store₀ tables₀ values₀ r₀ store tables values r left) where
+    -- it has come further
+    pub onward-from : (store′ : List ℤ) (tables′ : List ℕ) (values′ : List ℤ) (q : Registers) (rest : ℕ) → Under size code left store tables values r store′ tables′ values′ q rest →
+        Under size code m store₀ tables₀ values₀ r₀ store′ tables′ values′ q rest
+    onward-from store′ tables′ values′ q rest v =
+        let budget : left ≡ m - (m - left) = omega (arith, u .within) in
+        let so-far : m - left + (left - rest) ≡ m - rest = omega (arith, u .within, v .within) in
+        let more : Course size (wordsOf code) (stateAt size store tables values r) (m - (m - left)) (stateAt size store′ tables′ values′ q) (left - rest) = rw (← budget) (v .course) in
+        record {
+          within = omega (arith, u .within, v .within);
+          sound = v .sound;
+          course = rw so-far at (further size (wordsOf code) (stateAt size store₀ tables₀ values₀ r₀) m _ _ _ _ (u .course) more);
+        }
+
+    -- all was carried out, or the machine has stopped
+    pub lasts : (left ≡ 0) ⊎ (r .state ≢ running) →
+        (stateAt size store tables values r ≡ run size (wordsOf code) (stateAt size store₀ tables₀ values₀ r₀) m .state)
+        × (m - left ≡ countOf (run size (wordsOf code) (stateAt size store₀ tables₀ values₀ r₀) m))
+    lasts (inl none) = over-done size (wordsOf code) (stateAt size store₀ tables₀ values₀ r₀) m _ _ (u .course) (omega (arith, none))
+    lasts (inr stops) = over-stopped size (wordsOf code) (stateAt size store₀ tables₀ values₀ r₀) m _ _ (u .course) stops
+
+    module _ (some : 1 ≤ left) (runs : r .state ≡ running) (store′ : List ℤ) (tables′ : List ℕ) (values′ : List ℤ) (q : Registers) (same : length tables′ ≡ length tables) (is : Carries size code store tables values r store′ tables′ values′ q) where
+      sound : Sound size (boxed store′ tables′ values′ q)
+      sound = stays-sound size code n card store tables values r (u .sound) runs store′ tables′ values′ q same is
+
+      -- one more instruction is carried out, ..
+      pub one-done : q .state ≢ faulted → Under size code m store₀ tables₀ values₀ r₀ store′ tables′ values′ q (left - 1)
+      one-done fine =
+          let one = tells-done size code n card store tables values r (u .sound) runs store′ tables′ values′ q is fine in
+          let next : m - left + 1 ≡ m - (left - 1) = omega (arith, u .within) in
+          record {
+            within = omega (arith, u .within);
+            sound = sound;
+            course = rw next at (counted size (wordsOf code) (stateAt size store₀ tables₀ values₀ r₀) m _ _ _ (u .course) (omega (arith, u .within)) runs is one);
+          }
+
+      -- .. or it is a fault
+      pub one-fault : q .state ≡ faulted → Under size code m store₀ tables₀ values₀ r₀ store′ tables′ values′ q left
+      one-fault wrong =
+          let none = tells-fault size code n card store tables values r (u .sound) runs store′ tables′ values′ q is wrong in
+          record {
+            within = u .within;
+            sound = sound;
+            course = faulted-at size (wordsOf code) (stateAt size store₀ tables₀ values₀ r₀) m _ _ _ (u .course) (omega (arith, u .within)) runs is none (λ e. omega (arith, wrong, e));
+          }
+
+-- a run between turns, in lent slices that are as long as they were: what is next is one of the others
+pub record Going (size : ℕ) (code : List ℕ) (n m : ℕ) (store₀ : List ℤ) (tables₀ : List ℕ) (values₀ : List ℤ) (r₀ : Registers) (store : List ℤ) (tables : List ℕ) (values : List ℤ) (r : Registers) (left : ℕ) : Type 0 where
+  pub under : Under size code m store₀ tables₀ values₀ r₀ store tables values r left
+  pub ends : 1 ≤ left → r .state ≡ running → r .pc < n → Others (instructionAt code (r .pc) .opcode)
   pub store-long : length store ≡ length store₀
   pub tables-long : length tables ≡ length tables₀
   pub values-long : length values ≡ length values₀
 
 -- what is left of a run: the instructions, and a look at a machine that runs
-abbrev pub ahead : ℕ → ℕ → ℕ → ℕ
-ahead m count state = m - count + cond (eqb state running) 1 0
+abbrev pub ahead : ℕ → ℕ → ℕ
+ahead left state = left + cond (eqb state running) 1 0
 
 -- it falls where something was carried out, or the machine has stopped
-pub falls : (m count more state after : ℕ) → count < m → state ≡ running → (after ≡ running → 1 ≤ more) → ahead m (count + more) after < ahead m count state
-falls m count more state after below runs went =
+pub falls : (left rest state after : ℕ) → rest ≤ left → state ≡ running → (after ≡ running → rest < left) → ahead rest after < ahead left state
+falls left rest state after most runs went =
     rw (eq-eqb _ _ runs)
-    (same-or-not after running (λ e. rw (eq-eqb _ _ e) (omega (arith, below, went e))) (λ e. rw (ne-eqb _ _ e) (omega (arith, below))))
+    (same-or-not after running (λ e. rw (eq-eqb _ _ e) (omega (arith, went e))) (λ e. rw (ne-eqb _ _ e) (omega (arith, most))))

@@ -1,56 +1,56 @@
--- A stretch under way, whatever tables and values stand beside the store. Assumes nothing.
-use Prim.Native.Nat.{ℕ, _+_, _<_, _≤_}
+-- A stretch under way, whatever tables, values and other registers stand beside the context and the store. Assumes nothing.
+use Prim.Native.Nat.{ℕ, _+_, _-_, _<_, _≤_}
 use mathlib.Core.Path.{_≡_, refl, _∙_}
+use mathlib.Core.Bool.{true}
 use mathlib.Core.List.{List}
-use mathlib.Core.Logic.{_≢_}
 use native.Mathlib.Omega.{arith}
 use lib.IntN.{ℤ}
-use lib.ListN.{length}
-use Rattle.card.specs.Code.{instructionAt, wordsOf}
-use Rattle.cells.specs.Contract.{Able, DoesIn}
-use Rattle.engine.specs.Contract.{Carded, Carries, Housed, Under, stateAt}
-use Rattle.engine.proofs.Course.{begun, counted, faulted-at, stays-sound, tells-done, tells-fault}
-use Rattle.engine.proofs.Working.{at-pc, working}
-use Rattle.machine.specs.Calls.{boxed}
-use Rattle.machine.specs.Instructions.{instructionOf}
-use Rattle.machine.specs.Laws.{Sound}
-use Rattle.machine.specs.Registers.{faulted, running}
+use lib.ListN.{getD, length}
+use Rattle.cells.proofs.Tried.{fit}
+use Rattle.cells.specs.Attempts.{Fit}
+use Rattle.engine.specs.Contract.{Carries, Housed, Inside, Loaded, Under, stateAt}
+use Rattle.engine.proofs.Course.{entered, one-done}
+use Rattle.engine.proofs.Working.{at-pc, permitted, working}
+use Rattle.instruction.specs.Word.{opcodeOf, operandOf}
+use Rattle.local.specs.Contract.{Permitted, Ventures}
+use Rattle.machine.proofs.Equations.{carries}
+use Rattle.machine.specs.Context.{inContext}
 use Rattle.machine.specs.Tables.{tablesOf}
-use Rattle.machine.specs.declared.registers.Registers.{Registers}
+use Rattle.machine.specs.declared.context.Attempt.{Attempt}
+use Rattle.machine.specs.declared.context.Context.{Context}
 
--- a run of m from a store and registers has come to others, in every box
-abbrev pub Inside : ℕ → List ℕ → ℕ → List ℤ → Registers → List ℤ → Registers → ℕ → Type 0
-Inside size code m store₀ r₀ store r count =
-    (tables : List ℕ) (values : List ℤ) → Sound size (boxed store₀ tables values r₀) → Under size code m store₀ tables values r₀ store tables values r count
+-- the context past the instruction
+abbrev pub past : Context → Context
+past c = record { pc = c .pc + 1; cells = c .cells; fp = c .fp }
 
-module _ (size : ℕ) (code : List ℕ) (n m : ℕ) (card : Carded code n) (store₀ : List ℤ) (r₀ : Registers) where
-  pub enter : Inside size code m store₀ r₀ store₀ r₀ 0
-  enter tables values h = record { sound = h; course = begun size (wordsOf code) (stateAt size store₀ tables values r₀) m }
+module _ (size : ℕ) (words : List ℕ) (k m : ℕ) (store₀ : List ℤ) (t : ℕ) (c₀ : Context) where
+  pub enter : Inside size words k m store₀ t c₀ store₀ c₀ m
+  enter code n card unpacked tables values r runs h = entered size code n card m store₀ tables values (inContext r t c₀) h
 
-  module _ (store : List ℤ) (r : Registers) (count : ℕ) (inside : Inside size code m store₀ r₀ store r count) (runs : r .state ≡ running) (below : r .pc < n) where
-    -- the next instruction can be carried out
-    pub able : size ≤ 32 → Housed size store₀ r₀ → Able size r (length store)
-    able small house =
-        let u = inside (house .tables) (house .values) (house .sound) in
-        working code n card size store (house .tables) (house .values) r (u .sound) runs small below .able
+  module _ (store : List ℤ) (c : Context) (left : ℕ) (inside : Inside size words k m store₀ t c₀ store c left) (load : Loaded words k) (house : Housed size store₀ t c₀) where
+    -- somewhere the run is under way
+    pub somewhere : Under size (load .code) m store₀ (house .tables) (house .values) (inContext (house .r) t c₀) store (house .tables) (house .values) (inContext (house .r) t c) left
+    somewhere = inside (load .code) (load .n) (load .card) (load .unpacked) (house .tables) (house .values) (house .r) (house .runs) (house .sound)
 
-    module _ (store′ : List ℤ) (q : Registers) (left : count < m) (does : let i = instructionAt code (r .pc) in DoesIn size n (instructionOf (i .opcode) (i .operand)) store r store′ q) where
-      carries : (tables : List ℕ) (values : List ℤ) → Carries size code store tables values r store′ tables values q
-      carries tables values = does (tablesOf size tables) values ∙ at-pc code n card size (stateAt size store tables values r) below
+    -- what the next instruction asks
+    pub fits : c .pc < k → size ≤ 32 → Fit size t (past c) (length store)
+    fits below small =
+        let all : k ≡ load .n = load .unpacked .all (omega arith) in
+        fit (working (load .code) (load .n) (load .card) size store (house .tables) (house .values) (inContext (house .r) t c) (somewhere .sound) (house .runs) small (omega (arith, all)) .able)
 
-      sound : (tables : List ℕ) (values : List ℤ) → Sound size (boxed store₀ tables values r₀) → Sound size (boxed store′ tables values q)
-      sound tables values h = stays-sound size code n card store tables values r (inside tables values h .sound) runs store′ tables values q refl (carries tables values)
+    pub allowed : c .pc < k → let w = getD words (c .pc) 0 in Permitted k (opcodeOf w) (operandOf w)
+    allowed below =
+        let all : k ≡ load .n = load .unpacked .all (omega arith) in
+        rw (load .unpacked .word (c .pc) below, all) (permitted (load .code) (load .n) (load .card) (c .pc) (omega (arith, all)) .0)
 
-      -- it was carried out, ..
-      pub one-more : q .state ≢ faulted → Inside size code m store₀ r₀ store′ q (count + 1)
-      one-more fine tables values h =
-          let u = inside tables values h in
-          let one = tells-done size code n card store tables values r (u .sound) runs store′ tables values q (carries tables values) fine in
-          record { sound = sound tables values h; course = counted _ _ _ _ _ _ _ (u .course) left runs (carries tables values) one }
-
-      -- .. or it is a fault
-      pub none-more : q .state ≡ faulted → Inside size code m store₀ r₀ store′ q count
-      none-more wrong tables values h =
-          let u = inside tables values h in
-          let none = tells-fault size code n card store tables values r (u .sound) runs store′ tables values q (carries tables values) wrong in
-          record { sound = sound tables values h; course = faulted-at _ _ _ _ _ _ _ (u .course) left runs (carries tables values) none (λ e. omega (arith, wrong, e)) }
+  module _ (store : List ℤ) (c : Context) (left : ℕ) (inside : Inside size words k m store₀ t c₀ store c left) (below : c .pc < k) (store′ : List ℤ) (a : Attempt) (h : Ventures size k (getD words (c .pc) 0) store t (past c) store′ a) where
+    -- the instruction was carried out
+    pub one-more : 1 ≤ left → a .ok ≡ true → Inside size words k m store₀ t c₀ store′ (a .context) (left - 1)
+    one-more some ok code n card unpacked tables values r runs start =
+        let u = inside code n card unpacked tables values r runs start in
+        let all : k ≡ n = unpacked .all (omega arith) in
+        let s = stateAt size store tables values (inContext r t c) in
+        let is : Carries size code store tables values (inContext r t c) store′ tables values (inContext r t (a .context)) =
+        carries size n s _ _ (rw (unpacked .word (c .pc) below, all) at (h .is ok (tablesOf size tables) values r))
+        ∙ at-pc code n card size s (omega (arith, all)) in
+        one-done size code n card m store₀ tables values (inContext r t c₀) store tables values (inContext r t c) left u some runs store′ tables values (inContext r t (a .context)) refl is (λ e. omega (arith, runs, e))

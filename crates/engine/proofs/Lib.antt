@@ -1,4 +1,6 @@
-pub mod Operands
-pub mod Working
 pub mod Course
+pub mod Among
 pub mod Inside
+pub mod Operands
+pub mod Taking
+pub mod Working

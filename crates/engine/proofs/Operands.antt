@@ -1,5 +1,5 @@
 -- Operands that an accepted card may have. Assumes nothing.
-use Prim.Native.Nat.{ℕ, _≤_}
+use Prim.Native.Nat.{ℕ, _<_, _≤_}
 use mathlib.Core.Bool.{true}
 use mathlib.Core.Path.{_≡_}
 use native.Mathlib.Omega.{arith}
@@ -9,6 +9,8 @@ use borrow.Author.Tests.{leb-true}
 use Rattle.instruction.specs.Rules.{allows, isBetween, ruleOf}
 use Rattle.machine.proofs.Every.{and-first, and-second}
 use Rattle.machine.proofs.Lists.{same-or-not}
+use Rattle.machine.proofs.Targets.{targetOf}
+use Rattle.machine.specs.Instructions.{instructionOf}
 
 -- an operand that its rule allows: alloc's is 0 to 127, ..
 pub count-fits : (op : ℕ) (last k : ℤ) → allows (ruleOf op) last k ≡ true → op ≡ 6 → (natAbs k ≤ 127) × (leZ (pos 0) k ≡ true)
@@ -23,3 +25,9 @@ pub target-natural : (op : ℕ) (last k : ℤ) → allows (ruleOf op) last k ≡
 target-natural op last k e low high =
     same-or-not op 20 (λ i. and-first (leZ (pos 0) k) _ (rw i at e))
     (λ i. let j : op ≡ 21 = omega (arith, low, high, i) in and-first (leZ (pos 0) k) _ (rw j at e))
+
+-- .. and is an instruction of the card
+pub target-below : (op n : ℕ) (k : ℤ) → targetOf (instructionOf op k) < n → 20 ≤ op → op ≤ 21 → natAbs k < n
+unfolding instructionOf targetOf
+target-below op n k h low high =
+    same-or-not op 20 (λ i. rw i at h) (λ i. let j : op ≡ 21 = omega (arith, low, high, i) in rw j at h)

@@ -1,6 +1,7 @@
 -- What an instruction may rely on, and what the instruction at PC is. Assumes nothing.
 use Prim.Native.Nat.{ℕ, _<_, _≤_}
 use mathlib.Core.Path.{_≡_}
+use mathlib.Core.Bool.{true}
 use mathlib.Core.List.{List}
 use native.Mathlib.Omega.{arith}
 use lib.IntN.{ℤ}
@@ -11,7 +12,7 @@ use Rattle.card.specs.Code.{instructionAt, wordsOf}
 use Rattle.dispatch.specs.Contract.{Working}
 use Rattle.local.specs.Contract.{Permitted}
 use Rattle.engine.specs.Contract.{Carded}
-use Rattle.engine.proofs.Operands.{count-fits, target-natural}
+use Rattle.engine.proofs.Operands.{count-fits, target-below, target-natural}
 use Rattle.machine.specs.Calls.{boxed}
 use Rattle.machine.proofs.Held.{card-of, few-wait}
 use Rattle.machine.proofs.Laws.{sound-held}
@@ -21,7 +22,9 @@ use Rattle.machine.specs.Laws.{Sound}
 use Rattle.machine.specs.Registers.{stopped}
 use Rattle.machine.specs.State.{State, withRegs}
 use Rattle.machine.specs.Step.{carried, executed}
+use Rattle.machine.specs.Tables.{lives, tablesOf}
 use Rattle.machine.specs.declared.registers.Registers.{Registers}
+use Rattle.tables.proofs.Idle.{active-lives}
 
 module _ (code : List ℕ) (n : ℕ) (card : Carded code n) where
   -- the card's words: n of them, and every jump within them
@@ -79,7 +82,7 @@ module _ (code : List ℕ) (n : ℕ) (card : Carded code n) where
       }
 
   -- its instruction is one that an accepted card may have
-  pub permitted : (pc : ℕ) → pc < n → let i = instructionAt code pc in Permitted (i .opcode) (i .operand) × (i .opcode ≤ 40)
+  pub permitted : (pc : ℕ) → pc < n → let i = instructionAt code pc in Permitted n (i .opcode) (i .operand) × (i .opcode ≤ 40)
   permitted pc h =
       let w = word code pc (omega (arith, card .long)) in
       let there : pc < length (wordsOf code) = rw so-many h in
@@ -88,6 +91,14 @@ module _ (code : List ℕ) (n : ℕ) (card : Carded code n) where
           few = λ e. count-fits _ _ _ allowed e .0;
           count = λ e. count-fits _ _ _ allowed e .1;
           target = λ low high. target-natural _ _ _ allowed low high;
+          within = λ low high. target-below _ n _ (rw (so-many, w .is) at (words-of .targets pc there)) low high;
         },
         rw (w .is) at (words-of .opcodes pc there),
       )
+
+-- the thread that runs lives
+pub runner-lives : (size : ℕ) (store : List ℤ) (tables : List ℕ) (values : List ℤ) (r : Registers) → Sound size (boxed store tables values r) → r .state ≡ 1 →
+    lives (tablesOf size tables) (r .thread) ≡ true
+runner-lives size store tables values r h runs =
+    let held = sound-held size (boxed store tables values r) h in
+    active-lives (tablesOf size tables) (r .thread) (held .right .steady .both .kempt .tidy .runner (held .right .mode .has-thread runs) .1)

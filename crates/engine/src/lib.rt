@@ -3,6 +3,7 @@
 mod progress;
 mod runs;
 mod stretches;
+mod turns;
 
 pub use progress::Progress;
 pub use runs::run;

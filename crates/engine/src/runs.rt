@@ -1,18 +1,19 @@
-// One instruction of a running machine, and a run of many.
+// A run of many instructions: turns, and between them the instructions that are taken elsewhere.
 ghost use Prim.Native.Nat.{_≤_, _<_};
 ghost use mathlib.Core.Path.{_≡_};
-ghost use Rattle.card.specs.Code.{instructionAt};
+ghost use Rattle.card.specs.Code.{Unpacked, instructionAt};
+ghost use Rattle.dispatch.specs.Contract.{Others};
 ghost use Rattle.engine.specs.Contract.{Carded, Carries, Lasts, Onward};
-ghost use Rattle.local.specs.Contract.{Others};
 ghost use Rattle.machine.specs.Calls.{boxed};
 ghost use Rattle.machine.specs.Laws.{Sound};
 use crate::progress::Progress;
-use crate::stretches::stretch;
+use crate::turns::Standing;
+use crate::turns::turns;
 use machine::Registers;
 use machine::faults;
 use machine::states;
 
-// Carries out the instruction at PC, which ended a stretch, or stops with a fault.
+// Carries out the instruction at PC, which ended the turns, or stops with a fault.
 fn carry(
     code: &[u8],
     store: &mut [i32],
@@ -39,70 +40,100 @@ fn carry(
     dispatch::execute(store, tables, values, size, n, r, i.opcode, i.operand)
 }
 
-// A stretch, and the instruction that ended it.
+// The instruction that ended the turns, and the turns after it.
 fn onward(
     code: &[u8],
+    words: &[u32],
     store: &mut [i32],
     tables: &mut [usize],
     values: &mut [i32],
     size: usize,
     n: usize,
+    k: usize,
     r: Registers,
     m: usize,
-) -> Progress
+) -> Standing
     requires { ⌜ Carded (now code) n ⌝ }
+    requires { ⌜ Unpacked (now code) n (now words) k ⌝ }
     requires { ⌜ size ≤ 32 ⌝ }
     requires { ⌜ Sound size (boxed (now store) (now tables) (now values) r) ⌝ }
+    requires { ⌜ r .state ≡ 1 ⌝ }
+    requires { ⌜ (r .pc < n → Others (instructionAt (now code) (r .pc) .opcode)) ⌝ }
+    requires { ⌜ 1 ≤ m ⌝ }
     ensures { λ p.
-        ⌜ Onward size (now (code .entry)) m (now (store .entry)) (now (tables .entry)) (now (values .entry)) r
+        ⌜ Onward size (now (code .entry)) n m (now (store .entry)) (now (tables .entry)) (now (values .entry)) r
         (now (store .exit)) (now (tables .exit)) (now (values .exit)) p ⌝ }
 {
-    let p = stretch(code, store, size, n, r, m);
-    let count = p.count;
-    if m <= count {
-        return p;
+    let after = carry(code, store, tables, values, size, n, r);
+    if after.state == states::FAULTED {
+        return Standing {
+            registers: after,
+            left: m,
+        };
     }
-    let reached = p.registers;
-    if reached.state != states::RUNNING {
-        return p;
+    if after.state != states::RUNNING {
+        return Standing {
+            registers: after,
+            left: m - 1,
+        };
     }
-    let registers = carry(code, store, tables, values, size, n, reached);
-    if registers.state == states::FAULTED {
-        return Progress { registers, count };
-    }
-    Progress {
-        registers,
-        count: count + 1,
-    }
+    turns(code, words, store, tables, size, n, k, after, m - 1)
 }
 
 // Runs a machine for at most `m` instructions, until it stops.
 pub fn run(
     code: &[u8],
+    words: &[u32],
     store: &mut [i32],
     tables: &mut [usize],
     values: &mut [i32],
     size: usize,
     n: usize,
+    k: usize,
     r: Registers,
     m: usize,
 ) -> Progress
     requires { ⌜ Carded (now code) n ⌝ }
+    requires { ⌜ Unpacked (now code) n (now words) k ⌝ }
     requires { ⌜ size ≤ 32 ⌝ }
     requires { ⌜ Sound size (boxed (now store) (now tables) (now values) r) ⌝ }
     ensures { λ p.
         ⌜ Lasts size (now (code .entry)) (now (store .entry)) (now (tables .entry)) (now (values .entry)) r m
         (now (store .exit)) (now (tables .exit)) (now (values .exit)) p ⌝ }
 {
-    let mut registers = r;
-    let mut count = 0;
-    while count < m {
-        if registers.state != states::RUNNING {
-            return Progress { registers, count };
-        }
-        let p = onward(code, store, tables, values, size, n, registers, m - count);
-        registers = p.registers;
-        count += p.count;
+    if r.state != states::RUNNING {
+        return Progress {
+            registers: r,
+            count: 0,
+        };
     }
-    Progress { registers, count }
+    let first = turns(code, words, store, tables, size, n, k, r, m);
+    let mut registers = first.registers;
+    let mut left = first.left;
+    while 0 < left {
+        if registers.state != states::RUNNING {
+            return Progress {
+                registers,
+                count: m - left,
+            };
+        }
+        let p = onward(
+            code,
+            words,
+            store,
+            tables,
+            values,
+            size,
+            n,
+            k,
+            registers,
+            left,
+        );
+        registers = p.registers;
+        left = p.left;
+    }
+    Progress {
+        registers,
+        count: m - left,
+    }
 }

@@ -1,46 +1,50 @@
-// Stretches of instructions of the running thread alone. They are a loop of their own, with no call in it: what stays
-// the same in it, the thread's stack above all, stays in the processor's registers.
+// Stretches of instructions of the running thread alone: the machine's inner loop. It changes the thread's context and
+// the store, and nothing else, so that the context stays in the processor's registers. An instruction that isn't
+// carried out ends it, with nothing changed: what then is to be done is not for this loop. It is called from two
+// places, and so the compiler leaves it a function of its own.
 ghost use Prim.Native.Nat.{_≤_};
-ghost use Rattle.engine.specs.Contract.{Carded, Housed, Stretched};
-use crate::progress::Progress;
-use local::Local;
-use machine::Registers;
-use machine::states;
+ghost use Rattle.engine.specs.Contract.{Housed, Loaded, Stretched};
+use machine::Context;
 
-// Runs a machine for at most `m` instructions, until it stops or another instruction comes.
+pub struct Reached {
+    pub context: Context,
+    // What is left of the budget.
+    pub left: usize,
+}
+
+// Runs thread `t` for at most `m` of the card's `n` instructions, which are unpacked in `words`; with n of 0, for none.
 pub fn stretch(
-    code: &[u8],
+    words: &[u32],
     store: &mut [i32],
     size: usize,
+    t: usize,
     n: usize,
-    r: Registers,
+    c: Context,
     m: usize,
-) -> Progress
-    requires { ⌜ Carded (now code) n ⌝ }
+) -> Reached
+    requires { ⌜ Loaded (now words) n ⌝ }
     requires { ⌜ size ≤ 32 ⌝ }
-    requires { ⌜ Housed size (now store) r ⌝ }
-    ensures { λ p. ⌜ Stretched size (now (code .entry)) n m (now (store .entry)) r (now (store .exit)) p ⌝ }
+    requires { ⌜ Housed size (now store) t c ⌝ }
+    ensures { λ p. ⌜ Stretched size (now (words .entry)) n m (now (store .entry)) t c (now (store .exit)) p ⌝ }
 {
-    let mut registers = r;
-    let mut count = 0;
-    while count < m {
-        if registers.state != states::RUNNING {
-            return Progress { registers, count };
-        }
-        let pc = registers.pc;
+    let mut context = c;
+    let mut left = m;
+    while 0 < left {
+        let pc = context.pc;
         if n <= pc {
-            return Progress { registers, count };
+            return Reached { context, left };
         }
-        let i = card::fetch(code, pc);
-        let went = local::execute(store, size, n, registers, i.opcode, i.operand);
-        let Local::Done(after) = went else {
-            return Progress { registers, count };
+        let past = Context {
+            pc: pc + 1,
+            cells: context.cells,
+            fp: context.fp,
         };
-        registers = after;
-        if registers.state == states::FAULTED {
-            return Progress { registers, count };
+        let tried = local::execute(store, size, t, n, past, words[pc]);
+        if !tried.ok {
+            return Reached { context, left };
         }
-        count += 1;
+        context = tried.context;
+        left -= 1;
     }
-    Progress { registers, count }
+    Reached { context, left }
 }

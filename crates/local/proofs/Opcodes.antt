@@ -8,7 +8,6 @@ use lib.Dec.{T}
 use lib.IntN.{ℤ, pos, negsuc}
 use lib.Signed.{leZ, nonNeg}
 use Rattle.machine.proofs.Lists.{less-or-not}
-use Rattle.local.specs.Contract.{Others}
 
 -- with P, an opcode that is none of the k from one on ..
 abbrev pub NoneOf : Type 0 → ℕ → ℕ → ℕ → Type 0
@@ -23,15 +22,6 @@ from-none P from (suc k) op h = (from-none P from k op (h .0) .0, on (from-none 
     on : (op < from) ⊎ (from + k ≤ op) → (op < from) ⊎ (from + suc k ≤ op)
     on (inl e) = inl e
     on (inr e) = inr (omega (arith, e, h .1))
-
--- what the match of `execute` leaves: 0, 6, or 24 on
-pub others : (op : ℕ) → NoneOf (NoneOf Unit 1 5 op) 7 17 op → Others op
-others op h = by-side (from-none (NoneOf Unit 1 5 op) 7 17 op h .1) (from-none Unit 1 5 op (from-none (NoneOf Unit 1 5 op) 7 17 op h .0) .1)
-  where
-    by-side : (op < 7) ⊎ (24 ≤ op) → (op < 1) ⊎ (6 ≤ op) → Others op
-    by-side (inr e) d = inr (inr e)
-    by-side (inl e) (inl d) = inl (omega (arith, d))
-    by-side (inl e) (inr d) = inr (inl (omega (arith, e, d)))
 
 -- an operand that is not negative
 pub not-negative : (k : ℤ) → leZ (pos 0) k ≡ true → T (nonNeg k)

@@ -1,19 +1,18 @@
-// The instructions that a thread mostly runs: they touch its own stack and shared cells, and leave tables, values and
-// the other registers alone. Inner: the engine runs stretches of them. None of them becomes a call in the compiled
-// loop, as alloc would: that loop then keeps its values in the processor's registers.
+// The instructions that a thread mostly runs: they touch its own stack and shared cells, and of the registers only
+// its context. Inner: the engine's loop calls `execute`, from one place, so that the compiler puts all of them into
+// that loop; none becomes a call there, as alloc would. The dispatcher has them too, and the numbers of their faults.
 ghost use lib.IntN.{natAbs};
 ghost use lib.ListN.{length};
 ghost use mathlib.Core.Path.{_≡_};
-ghost use Rattle.cells.specs.Contract.{Able};
-ghost use Rattle.local.specs.Contract.{Natural, Permitted, Went};
-use machine::Registers;
+ghost use Rattle.cells.specs.Attempts.{Fit};
+ghost use Rattle.instruction.specs.Word.{opcodeOf, operandOf};
+ghost use Rattle.local.specs.Contract.{Natural, Permitted, Ventures};
+use machine::Attempt;
+use machine::Context;
+use machine::stopped;
 
-pub enum Local {
-    // The registers after the instruction.
-    Done(Registers),
-    // The opcode is another instruction's, and nothing was done.
-    Other,
-}
+// In place of a fault's number, where the instruction is another: no fault has it.
+const ANOTHER: usize = 1;
 
 // An operand that is a number of cells or a jump's target.
 pub fn natural(k: i32) -> usize
@@ -23,41 +22,36 @@ pub fn natural(k: i32) -> usize
     k as usize
 }
 
-pub fn execute(
-    store: &mut [i32],
-    size: usize,
-    n: usize,
-    r: Registers,
-    opcode: u32,
-    operand: i32,
-) -> Local
-    requires { ⌜ Able size r (length (now store)) ⌝ }
-    requires { ⌜ Permitted opcode operand ⌝ }
-    ensures { λ went. ⌜ Went size n opcode operand (now (store .entry)) r (now (store .exit)) went ⌝ }
+// Tries the instruction `w` of a card of `n`, with PC past it.
+pub fn execute(store: &mut [i32], size: usize, t: usize, n: usize, c: Context, w: u32) -> Attempt
+    requires { ⌜ Fit size t c (length (now store)) ⌝ }
+    requires { ⌜ Permitted n (opcodeOf w) (operandOf w) ⌝ }
+    ensures { λ a. ⌜ Ventures size n w (now (store .entry)) t c (now (store .exit)) a ⌝ }
 {
-    match opcode {
-        1 => Local::Done(stack::loadc(store, size, r, operand)),
-        2 => Local::Done(shared::load(store, size, r)),
-        3 => Local::Done(shared::store_cell(store, size, r)),
-        4 => Local::Done(stack::loadr(store, size, r, operand)),
-        5 => Local::Done(stack::storer(store, size, r, operand)),
-        7 => Local::Done(stack::pop(r)),
-        8 => Local::Done(stack::dup(store, size, r)),
-        9 => Local::Done(operators::binary(store, size, r, 9)),
-        10 => Local::Done(operators::binary(store, size, r, 10)),
-        11 => Local::Done(operators::binary(store, size, r, 11)),
-        12 => Local::Done(operators::binary(store, size, r, 12)),
-        13 => Local::Done(operators::binary(store, size, r, 13)),
-        14 => Local::Done(operators::neg(store, size, r)),
-        15 => Local::Done(operators::compare(store, size, r, 15)),
-        16 => Local::Done(operators::compare(store, size, r, 16)),
-        17 => Local::Done(operators::compare(store, size, r, 17)),
-        18 => Local::Done(operators::compare(store, size, r, 18)),
-        19 => Local::Done(operators::not(store, size, r)),
-        20 => Local::Done(control::jump(r, natural(operand))),
-        21 => Local::Done(control::jumpz(store, size, r, natural(operand))),
-        22 => Local::Done(stack::mark(store, size, r)),
-        23 => Local::Done(control::call(store, size, r, n)),
-        _ => Local::Other,
+    match instruction::opcode(w) {
+        1 => stack::loadc(store, size, t, c, instruction::operand(w)),
+        2 => shared::load(store, size, t, c),
+        3 => shared::store_cell(store, size, t, c),
+        4 => stack::loadr(store, size, t, c, instruction::operand(w)),
+        5 => stack::storer(store, size, t, c, instruction::operand(w)),
+        7 => stack::pop(c),
+        8 => stack::dup(store, size, t, c),
+        9 => operators::binary(store, size, t, c, 9),
+        10 => operators::binary(store, size, t, c, 10),
+        11 => operators::binary(store, size, t, c, 11),
+        12 => operators::binary(store, size, t, c, 12),
+        13 => operators::binary(store, size, t, c, 13),
+        14 => operators::neg(store, size, t, c),
+        15 => operators::compare(store, size, t, c, 15),
+        16 => operators::compare(store, size, t, c, 16),
+        17 => operators::compare(store, size, t, c, 17),
+        18 => operators::compare(store, size, t, c, 18),
+        19 => operators::not(store, size, t, c),
+        20 => control::jump(c, natural(instruction::operand(w))),
+        21 => control::jumpz(store, size, t, c, natural(instruction::operand(w)), n),
+        22 => stack::mark(store, size, t, c),
+        23 => control::call(store, size, t, c, n),
+        24 => control::back(store, size, t, c, n),
+        _ => stopped(c, ANOTHER),
     }
 }

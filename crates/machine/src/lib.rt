@@ -1,5 +1,6 @@
 // The machine's types: registers by value, the numbers of threads, mutexes, conditions and semaphores, and the answers.
 mod answers;
+mod context;
 pub mod faults;
 mod numbers;
 mod registers;
@@ -7,6 +8,10 @@ pub mod sizes;
 pub mod states;
 
 pub use answers::Answer;
+pub use context::Attempt;
+pub use context::Context;
+pub use context::done;
+pub use context::stopped;
 pub use numbers::Condition;
 pub use numbers::First;
 pub use numbers::Mutex;

@@ -1,7 +1,9 @@
 // The registers. They go in by value and come back advanced.
 ghost use mathlib.Core.Path.{_≡_};
 ghost use Prim.Native.Nat.{_≤_};
+ghost use Rattle.machine.specs.Context.{inContext};
 ghost use Rattle.machine.specs.Registers.{advanced, stopped, switched, withCells, withFp, withFree, withMade, withPc, withSemaphores, withState};
+use crate::context::Context;
 use crate::numbers::Thread;
 use crate::states;
 
@@ -45,6 +47,16 @@ impl Registers {
         self.pc = pc;
         self.cells = cells;
         self.fp = fp;
+        self
+    }
+
+    // The same thread in another context.
+    pub fn with_context(mut self, c: Context) -> Self
+        ensures { λ r. ⌜ r ≡ inContext self (self .thread) c ⌝ }
+    {
+        self.pc = c.pc;
+        self.cells = c.cells;
+        self.fp = c.fp;
         self
     }
 

@@ -5,9 +5,12 @@ ghost use lib.IntN.{pos};
 ghost use lib.ListN.{length};
 ghost use Rattle.machine.specs.Instructions.{instructionOf};
 ghost use Rattle.operators.specs.Operators.{tested};
-ghost use Rattle.cells.specs.Contract.{Able, Does};
-use machine::Registers;
+ghost use Rattle.cells.specs.Attempts.{Fit, Tries};
+use machine::Attempt;
+use machine::Context;
+use machine::done;
 use machine::faults;
+use machine::stopped;
 
 fn test(op: u32, a: i32, b: i32) -> bool
     ensures { λ r. ⌜ r ≡ tested op a b ⌝ }
@@ -21,19 +24,23 @@ fn test(op: u32, a: i32, b: i32) -> bool
 }
 
 // eq, neq, less and leq, by their opcodes.
-pub fn compare(store: &mut [i32], size: usize, r: Registers, op: u32) -> Registers
-    requires { ⌜ Able size r (length (now store)) ⌝ }
+pub fn compare(store: &mut [i32], size: usize, t: usize, c: Context, op: u32) -> Attempt
+    requires { ⌜ Fit size t c (length (now store)) ⌝ }
     requires { ⌜ 15 ≤ op ⌝ }
     requires { ⌜ op ≤ 18 ⌝ }
-    ensures { λ q. ⌜ Does size (instructionOf op (pos 0)) (now (store .entry)) r (now (store .exit)) q ⌝ }
+    ensures { λ a. ⌜ Tries size (instructionOf op (pos 0)) (now (store .entry)) t c (now (store .exit)) a ⌝ }
 {
-    let cells = r.cells;
+    let cells = c.cells;
     if cells < 2 {
-        return r.stop(faults::STACK_UNDERFLOW);
+        return stopped(c, faults::STACK_UNDERFLOW);
     }
-    let below = cells::peek(store, size, r.thread, cells - 2);
-    let top = cells::peek(store, size, r.thread, cells - 1);
+    let below = cells::peek(store, size, t, cells - 2);
+    let top = cells::peek(store, size, t, cells - 1);
     let v = arithmetic::truth(test(op, below, top));
-    cells::poke(store, size, r.thread, cells - 2, v);
-    r.advance().with_cells(cells - 1)
+    cells::poke(store, size, t, cells - 2, v);
+    done(Context {
+        pc: c.pc,
+        cells: cells - 1,
+        fp: c.fp,
+    })
 }

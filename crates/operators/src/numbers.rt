@@ -1,56 +1,65 @@
 // Arithmetic on top and the cell below it.
+ghost use mathlib.Core.Bool.{_&&_};
 ghost use mathlib.Core.Path.{_≡_};
 ghost use Prim.Native.Nat.{_≤_};
+ghost use lib.Dec.{leb};
 ghost use lib.IntN.{pos};
 ghost use lib.ListN.{length};
+ghost use Rattle.arithmetic.specs.Arithmetic.{eqZ};
 ghost use Rattle.machine.specs.Instructions.{instructionOf};
-ghost use Rattle.operators.specs.Operators.{computed, divided};
-ghost use Rattle.cells.specs.Contract.{Able, Does};
-use arithmetic::Number;
-use machine::Registers;
+ghost use Rattle.operators.specs.Operators.{computed};
+ghost use Rattle.cells.specs.Attempts.{Fit, Tries};
+use machine::Attempt;
+use machine::Context;
+use machine::done;
 use machine::faults;
+use machine::stopped;
 
-// A zero divisor has no result, and is the same fault as one beyond 32 bits.
-fn divide(op: u32, a: i32, b: i32) -> Number
-    ensures { λ r. ⌜ r ≡ divided op a b ⌝ }
+// Opcodes 12 and 13 divide, and have no result by 0.
+fn lacks_divisor(op: u32, b: i32) -> bool
+    ensures { λ r. ⌜ r ≡ leb 12 op && eqZ b (pos 0) ⌝ }
 {
-    if arithmetic::is_zero(b) {
-        return Number::Beyond;
-    }
-    if op == 12 {
-        arithmetic::div(a, b)
-    } else {
-        arithmetic::rem(a, b)
-    }
+    12 <= op && arithmetic::is_zero(b)
 }
 
-fn compute(op: u32, a: i32, b: i32) -> Number
+fn compute(op: u32, a: i32, b: i32) -> i64
+    requires { ⌜ 9 ≤ op ⌝ }
+    requires { ⌜ (12 ≤ op → b ≡ pos 0 → ⊥) ⌝ }
     ensures { λ r. ⌜ r ≡ computed op a b ⌝ }
 {
     match op {
-        9 => arithmetic::add(a, b),
-        10 => arithmetic::sub(a, b),
-        11 => arithmetic::mul(a, b),
-        _ => divide(op, a, b),
+        9 => arithmetic::sum(a, b),
+        10 => arithmetic::difference(a, b),
+        11 => arithmetic::product(a, b),
+        12 => arithmetic::quotient(a, b),
+        _ => arithmetic::remainder(a, b),
     }
 }
 
-// add, sub, mul, div and mod, by their opcodes.
-pub fn binary(store: &mut [i32], size: usize, r: Registers, op: u32) -> Registers
-    requires { ⌜ Able size r (length (now store)) ⌝ }
+// add, sub, mul, div and mod, by their opcodes. A zero divisor is the same fault as a result beyond 32 bits.
+pub fn binary(store: &mut [i32], size: usize, t: usize, c: Context, op: u32) -> Attempt
+    requires { ⌜ Fit size t c (length (now store)) ⌝ }
     requires { ⌜ 9 ≤ op ⌝ }
     requires { ⌜ op ≤ 13 ⌝ }
-    ensures { λ q. ⌜ Does size (instructionOf op (pos 0)) (now (store .entry)) r (now (store .exit)) q ⌝ }
+    ensures { λ a. ⌜ Tries size (instructionOf op (pos 0)) (now (store .entry)) t c (now (store .exit)) a ⌝ }
 {
-    let cells = r.cells;
+    let cells = c.cells;
     if cells < 2 {
-        return r.stop(faults::STACK_UNDERFLOW);
+        return stopped(c, faults::STACK_UNDERFLOW);
     }
-    let below = cells::peek(store, size, r.thread, cells - 2);
-    let top = cells::peek(store, size, r.thread, cells - 1);
-    let Number::Value(v) = compute(op, below, top) else {
-        return r.stop(faults::ARITHMETIC);
-    };
-    cells::poke(store, size, r.thread, cells - 2, v);
-    r.advance().with_cells(cells - 1)
+    let below = cells::peek(store, size, t, cells - 2);
+    let top = cells::peek(store, size, t, cells - 1);
+    if lacks_divisor(op, top) {
+        return stopped(c, faults::ARITHMETIC);
+    }
+    let v = compute(op, below, top);
+    if !arithmetic::fits(v) {
+        return stopped(c, faults::ARITHMETIC);
+    }
+    cells::poke(store, size, t, cells - 2, v as i32);
+    done(Context {
+        pc: c.pc,
+        cells: cells - 1,
+        fp: c.fp,
+    })
 }

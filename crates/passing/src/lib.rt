@@ -10,7 +10,6 @@ ghost use Rattle.machine.specs.Execution.{lowering, raising};
 ghost use Rattle.machine.specs.Tables.{atSemaphore, tablesOf, wakeFirst};
 ghost use Rattle.tables.specs.Good.{Good, Left};
 ghost use Rattle.passing.specs.Contract.{Comes, Low};
-use arithmetic::Number;
 use machine::Registers;
 use machine::Semaphore;
 use machine::faults;
@@ -47,9 +46,11 @@ pub fn raise(
         ⌜ Comes size (λ n s. raising size n s (k .0)) (now (tables .entry)) (now (values .entry)) r
         (now (tables .exit)) (now (values .exit)) q ⌝ }
 {
-    let Number::Value(raised) = arithmetic::add(tables::count(values, size, k), 1) else {
+    let v = arithmetic::sum(tables::count(values, size, k), 1);
+    if !arithmetic::fits(v) {
         return r.stop(faults::ARITHMETIC);
-    };
+    }
+    let raised = v as i32;
     tables::set_count(values, size, k, raised);
     wake_unless_positive(tables, size, k, raised);
     cells::popped(r)

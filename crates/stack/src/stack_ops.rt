@@ -1,14 +1,21 @@
 // The stack itself: cells come and go at its top.
-ghost use Prim.Native.Nat.{_<_, _≤_};
+ghost use Prim.Native.Nat.{ℕ, _≤_};
+ghost use lib.IntN.{ℤ};
+ghost use mathlib.Core.List.{List};
 ghost use Rattle.machine.specs.Instructions.{alloc, dup, mark, pop};
-ghost use Rattle.cells.specs.Contract.{Able, Does, DoesAnywhere};
+ghost use Rattle.cells.specs.Attempts.{Fit, Tries};
+ghost use Rattle.cells.specs.Contract.{Able, Does};
 ghost use lib.ListN.{length};
 use crate::constants::loadc;
 use cells::peek;
 use cells::poke;
+use machine::Attempt;
+use machine::Context;
 use machine::Registers;
+use machine::done;
 use machine::faults;
 use machine::sizes;
+use machine::stopped;
 
 pub fn alloc(store: &mut [i32], size: usize, r: Registers, k: usize) -> Registers
     requires { ⌜ Able size r (length (now store)) ⌝ }
@@ -26,33 +33,36 @@ pub fn alloc(store: &mut [i32], size: usize, r: Registers, k: usize) -> Register
     r.advance().with_cells(end)
 }
 
-pub fn pop(r: Registers) -> Registers
-    requires { ⌜ r .pc < 4096 ⌝ }
-    ensures { λ q. ⌜ DoesAnywhere pop r q ⌝ }
+pub fn pop(c: Context) -> Attempt
+    ensures { λ a. ⌜ ((size t : ℕ) (store : List ℤ) → Tries size pop store t c store a) ⌝ }
 {
-    let cells = r.cells;
+    let cells = c.cells;
     if cells < 1 {
-        return r.stop(faults::STACK_UNDERFLOW);
+        return stopped(c, faults::STACK_UNDERFLOW);
     }
-    r.advance().with_cells(cells - 1)
+    done(Context {
+        pc: c.pc,
+        cells: cells - 1,
+        fp: c.fp,
+    })
 }
 
-pub fn dup(store: &mut [i32], size: usize, r: Registers) -> Registers
-    requires { ⌜ Able size r (length (now store)) ⌝ }
-    ensures { λ q. ⌜ Does size dup (now (store .entry)) r (now (store .exit)) q ⌝ }
+pub fn dup(store: &mut [i32], size: usize, t: usize, c: Context) -> Attempt
+    requires { ⌜ Fit size t c (length (now store)) ⌝ }
+    ensures { λ a. ⌜ Tries size dup (now (store .entry)) t c (now (store .exit)) a ⌝ }
 {
-    let cells = r.cells;
+    let cells = c.cells;
     if cells < 1 {
-        return r.stop(faults::STACK_UNDERFLOW);
+        return stopped(c, faults::STACK_UNDERFLOW);
     }
-    let top = peek(store, size, r.thread, cells - 1);
-    loadc(store, size, r, top)
+    let top = peek(store, size, t, cells - 1);
+    loadc(store, size, t, c, top)
 }
 
 // FP, as a number.
-pub fn mark(store: &mut [i32], size: usize, r: Registers) -> Registers
-    requires { ⌜ Able size r (length (now store)) ⌝ }
-    ensures { λ q. ⌜ Does size mark (now (store .entry)) r (now (store .exit)) q ⌝ }
+pub fn mark(store: &mut [i32], size: usize, t: usize, c: Context) -> Attempt
+    requires { ⌜ Fit size t c (length (now store)) ⌝ }
+    ensures { λ a. ⌜ Tries size mark (now (store .entry)) t c (now (store .exit)) a ⌝ }
 {
-    loadc(store, size, r, r.fp as i32)
+    loadc(store, size, t, c, c.fp as i32)
 }

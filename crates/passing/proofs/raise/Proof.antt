@@ -1,37 +1,49 @@
 -- `passing::raise` meets its contract. Assumes nothing.
 use mathlib.Core.Path.{_≡_, ap, sym, _∙_}
-use borrow.Author.Needs.{needs, sfits-of}
+use mathlib.Core.Bool.{true, false}
+use mathlib.Core.List.{List}
+use borrow.Author.Needs.{needs}
 use denote.Ref.{now}
-use lib.IntN.{pos, _+ℤ_}
-use mir.Syntax.{w32}
-use mir.Facts.{toZ-ofZ}
-use Rattle.arithmetic.specs.Arithmetic.{narrowed}
-use Rattle.machine.specs.State.{semaphoreCount}
+use lib.Dec.{ltb}
+use lib.IntN.{ℤ, pos, _+ℤ_}
+use lib.Signed.{mag}
+use Rattle.machine.specs.State.{State, semaphoreCount}
 use Rattle.machine.specs.Step.{onward}
 use Rattle.machine.specs.Tables.{tablesOf}
 use Rattle.cells.specs.Contract.{at}
-use Rattle.cells.proofs.Fits.{fits-is, numbered-beyond, numbered-value}
+use Rattle.cells.proofs.Fits.{fits-in, fits-out, fits-unless, narrow-is, narrows}
 use Rattle.cells.proofs.Tests.{read-back}
 use Rattle.passing.specs.Contract.{leaves}
 use Rattle.passing.proofs.Laws.{raises}
 use Rattle.passing.proofs.raise.Statement.{statement}
 use Rattle.passing.proofs.raise.Tie as tie
 
--- the number that was computed of the count
-number : (c : tie.After-add) → narrowed (semaphoreCount (c .before .before .before .before .args .size) (now (c .before .before .before .before .args .values)) (c .before .before .before .before .args .k .0) +ℤ pos 1) ≡ c .add .result
-number c = sym (rw (read-back (c .before .count .ok) (c .before .count .ensures)) at (c .add .ensures))
+-- the state that the instruction is carried out in
+abbrev started : tie.Start → List ℤ → State
+started s store = onward (at store (tablesOf (s .args .size) (now (s .args .tables))) (now (s .args .values)) (s .args .r))
+
+-- one above the count
+abbrev above : tie.Start → ℤ
+above s = semaphoreCount (s .args .size) (now (s .args .values)) (s .args .k .0) +ℤ pos 1
+
+-- it is what was computed, and tested
+number : (c : tie.After-sum) → c .sum .result ≡ above (c .before .before .before .before)
+number c = rw (read-back (c .before .count .ok) (c .before .count .ensures)) at (c .sum .ensures)
+
+outside : (c : tie.Then1) → ltb (mag (above (c .before .before .before .before .before .before))) 2147483648 ≡ false
+outside c = fits-unless (c .before .before .sum .ok) (number (c .before .before)) (c .before .fits2 .ensures) (c .if1 .taken)
+
+inside : (c : tie.Else1) → ltb (mag (above (c .before .before .before .before .before .before))) 2147483648 ≡ true
+inside c = fits-unless (c .before .before .sum .ok) (number (c .before .before)) (c .before .fits2 .ensures) (c .if1 .left)
 
 count-requires : tie.Need-count-requires
 count-requires c κs = search needs
 
-add-requires : tie.Need-add-requires
-add-requires c κs = search needs
+sum-requires : tie.Need-sum-requires
+sum-requires c κs = search needs
 
-enum-known-raised : tie.Need-enum-known-raised
-enum-known-raised c = search needs
-
-enum-told : tie.Need-enum-told
-enum-told c = search needs
+fits-requires : tie.Need-fits-requires
+fits-requires c κs = search needs
 
 stop-requires : tie.Need-stop-requires
 stop-requires c κs = search needs
@@ -40,7 +52,10 @@ same-length : tie.Need-same-length
 same-length c = search needs
 
 returns : tie.Need-returns
-returns c n store = rw (c .stop .ensures) (ap (leaves _) (sym (fits-is _ _ ∙ numbered-beyond _ _ (number (c .before .before .before) ∙ c .before .enum-told .given .1))))
+returns c n store = rw (c .stop .ensures) (ap (leaves _) (sym (fits-out _ _ (outside (c .before)))))
+
+cast-raised : tie.Need-cast-raised
+cast-raised c = narrows (c .before .before .sum .ok) (number (c .before .before)) (inside c)
 
 set-count-requires : tie.Need-set-count-requires
 set-count-requires c κs = search needs
@@ -59,21 +74,20 @@ same-length-3 c = search needs
 
 returns-2 : tie.Need-returns-2
 returns-2 c n store =
-    rw (c .popped .ensures, c .before .before .before .wake-unless-positive .ensures .is, c .before .before .before .before .before .before .set-count .ensures, toZ-ofZ (sfits-of {w = w32} {z = c .before .before .before .before .before .before .before .before .before .raised .given .0 .0} (c .before .before .before .before .before .before .before .before .known-told .given .0 .1)))
-    (raises (c .before .before .before .before .before .before .before .before .before .before .before .before .before .before .before .args .size) n (onward (at store (tablesOf (c .before .before .before .before .before .before .before .before .before .before .before .before .before .before .before .args .size) (now (c .before .before .before .before .before .before .before .before .before .before .before .before .before .before .before .args .tables))) (now (c .before .before .before .before .before .before .before .before .before .before .before .before .before .before .before .args .values)) (c .before .before .before .before .before .before .before .before .before .before .before .before .before .before .before .args .r))) (c .before .before .before .before .before .before .before .before .before .before .before .before .before .before .before .args .k .0) (c .before .before .before .before .before .before .before .before .before .raised .given .0 .0)
-    ∙ ap (leaves _) (sym (fits-is _ _ ∙ numbered-value _ _ _ (number (c .before .before .before .before .before .before .before .before .before .before .before) ∙ c .before .before .before .before .before .before .before .before .before .raised .given .1))))
+    rw (c .popped .ensures, c .before .before .before .wake-unless-positive .ensures .is, c .before .before .before .before .before .before .set-count .ensures, narrow-is (c .before .before .before .before .before .before .before .before .before .before .sum .ok) (number (c .before .before .before .before .before .before .before .before .before .before)) (inside (c .before .before .before .before .before .before .before .before)))
+    (raises (c .before .before .before .before .before .before .before .before .before .before .before .before .before .before .args .size) n (started (c .before .before .before .before .before .before .before .before .before .before .before .before .before .before) store) (c .before .before .before .before .before .before .before .before .before .before .before .before .before .before .args .k .0) (above (c .before .before .before .before .before .before .before .before .before .before .before .before .before .before)) ∙ ap (leaves _) (sym (fits-in _ _ (inside (c .before .before .before .before .before .before .before .before)))))
 
 pub raise-spec : {M : Type 1} → statement M
 raise-spec =
     tie.close
     (tie.spec
     count-requires
-    add-requires
-    enum-known-raised
-    enum-told
+    sum-requires
+    fits-requires
     stop-requires
     same-length
     returns
+    cast-raised
     set-count-requires
     wake-unless-positive-requires
     popped-requires

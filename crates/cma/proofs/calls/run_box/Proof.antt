@@ -1,9 +1,9 @@
 -- `cma::calls::run_box` meets its contract. Assumes nothing.
 use mathlib.Core.Path.{sym, ap, _∙_}
-use borrow.Author.Needs.{needs}
 use borrow.Author.Tests.{eq-eqb, not-false, not-true}
 use Rattle.card.specs.Image.{told}
 use Rattle.cma.proofs.Called.{carded, header, its-code, misfit, ran, unformed, unread}
+use borrow.Author.Needs.{needs}
 use Rattle.cma.proofs.calls.run_box.Statement.{statement}
 use Rattle.cma.proofs.calls.run_box.Tie as tie
 
@@ -57,11 +57,14 @@ part-code-start c = header _ _ (sym (c .before .before .before .before .before .
 part-code-end : tie.Need-part-code-end
 part-code-end c = search needs
 
+unpack-requires : tie.Need-unpack-requires
+unpack-requires c κs = let read = sym (c .before .before .before .before .before .before .before .before .before .read .ensures) ∙ ap told (c .before .before .before .before .before .before .before .enum-told .given .1) in carded _ _ _ read (its-code _ _ read) .long
+
 run-requires : tie.Need-run-requires
 run-requires c κs =
-    let read = sym (c .before .before .before .before .before .before .before .before .before .before .before .read .ensures) ∙ ap told (c .before .before .before .before .before .before .before .before .before .enum-told .given .1) in
-    let formed = sym (c .before .before .before .before .before .well-formed .ensures) ∙ not-false (c .before .before .before .before .before .well-formed .result) (c .before .before .before .before .if2 .left) in
-    (carded _ _ _ read (its-code _ _ read), (c .before .before .before .before .before .before .before .before .before .before .before .before .before .before .pre, record { store = eq-eqb _ _ (c .before .before .before .before .before .before .before .before .if1 .left); formed = formed }))
+    let read = sym (c .before .before .before .before .before .before .before .before .before .before .before .before .before .before .before .before .read .ensures) ∙ ap told (c .before .before .before .before .before .before .before .before .before .before .before .before .before .before .enum-told .given .1) in
+    let formed = sym (c .before .before .before .before .before .before .before .before .before .before .well-formed .ensures) ∙ not-false (c .before .before .before .before .before .before .before .before .before .before .well-formed .result) (c .before .before .before .before .before .before .before .before .before .if2 .left) in
+    (carded _ _ _ read (its-code _ _ read), (c .before .before .before .before .before .before .unpack .ensures, (c .before .before .before .before .before .before .before .before .before .before .before .before .before .before .before .before .before .before .before .before .pre, record { store = eq-eqb _ _ (c .before .before .before .before .before .before .before .before .before .before .before .before .before .if1 .left); formed = formed })))
 
 ended-requires : tie.Need-ended-requires
 ended-requires c κs = search needs
@@ -78,11 +81,14 @@ same-length-4 c = search needs
 same-length-5 : tie.Need-same-length-5
 same-length-5 c = search needs
 
+same-length-6 : tie.Need-same-length-6
+same-length-6 c = search needs
+
 returns-4 : tie.Need-returns-4
 returns-4 c =
-    let read = sym (c .before .before .before .before .before .before .before .before .before .before .before .before .before .before .before .before .before .read .ensures) ∙ ap told (c .before .before .before .before .before .before .before .before .before .before .before .before .before .before .before .enum-told .given .1) in
-    let formed = sym (c .before .before .before .before .before .before .before .before .before .before .before .well-formed .ensures) ∙ not-false (c .before .before .before .before .before .before .before .before .before .before .before .well-formed .result) (c .before .before .before .before .before .before .before .before .before .before .if2 .left) in
-    ran _ _ _ _ _ _ _ _ _ _ _ _ _ _ read (c .before .before .before .before .before .before .before .before .before .before .before .before .before .before .if1 .left) formed (its-code _ _ read) (c .before .before .before .before .before .run .ensures) (c .ended .ensures)
+    let read = sym (c .before .before .before .before .before .before .before .before .before .before .before .before .before .before .before .before .before .before .before .before .before .before .read .ensures) ∙ ap told (c .before .before .before .before .before .before .before .before .before .before .before .before .before .before .before .before .before .before .before .before .enum-told .given .1) in
+    let formed = sym (c .before .before .before .before .before .before .before .before .before .before .before .before .before .before .before .before .well-formed .ensures) ∙ not-false (c .before .before .before .before .before .before .before .before .before .before .before .before .before .before .before .before .well-formed .result) (c .before .before .before .before .before .before .before .before .before .before .before .before .before .before .before .if2 .left) in
+    ran _ _ _ _ _ _ _ _ _ _ _ _ _ _ read (c .before .before .before .before .before .before .before .before .before .before .before .before .before .before .before .before .before .before .before .if1 .left) formed (its-code _ _ read) (c .before .before .before .before .before .run .ensures) (c .ended .ensures)
 
 pub run-box-spec : {M : Type 1} → statement M
 run-box-spec =
@@ -104,10 +110,12 @@ run-box-spec =
     sub-code
     part-code-start
     part-code-end
+    unpack-requires
     run-requires
     ended-requires
     returns-3
     same-length-3
     same-length-4
     same-length-5
+    same-length-6
     returns-4)

@@ -1,8 +1,8 @@
--- `engine::carry` meets its contract. Assumes nothing.
-use borrow.Author.Needs.{needs, sfits-of}
+-- `engine::runs::carry` meets its contract. Assumes nothing.
 use mir.Facts.{toZ-ofZ}
 use mir.Syntax.{w32}
 use Rattle.engine.proofs.Working.{at-pc, past-end, permitted, working}
+use borrow.Author.Needs.{needs, sfits-of}
 use Rattle.engine.proofs.runs.carry.Statement.{statement}
 use Rattle.engine.proofs.runs.carry.Tie as tie
 
@@ -34,7 +34,8 @@ same-length-3 : tie.Need-same-length-3
 same-length-3 c = search needs
 
 returns-2 : tie.Need-returns-2
-returns-2 c = rw (c .before .before .before .before .execute .ensures, toZ-ofZ (sfits-of {w = w32} {z = c .before .before .before .before .before .before .before .before .before .fetch .result .operand} (c .before .before .before .before .before .struct-told .given .1 .0 .1)), c .before .before .before .before .before .before .before .before .before .fetch .ensures) (at-pc _ _ (c .before .before .before .before .before .before .before .before .before .before .before .before .before .pre .0) _ _ (c .before .before .before .before .before .before .before .before .before .before .if1 .left))
+returns-2 c =
+    rw (c .before .before .before .before .execute .ensures, toZ-ofZ (sfits-of {w = w32} {z = c .before .before .before .before .before .before .before .before .before .fetch .result .operand} (c .before .before .before .before .before .struct-told .given .1 .0 .1)), c .before .before .before .before .before .before .before .before .before .fetch .ensures) (at-pc _ _ (c .before .before .before .before .before .before .before .before .before .before .before .before .before .pre .0) _ _ (c .before .before .before .before .before .before .before .before .before .before .if1 .left))
 
 pub carry-spec : {M : Type 1} → statement M
 carry-spec =

@@ -1,21 +1,22 @@
 -- `operators::comparisons::compare` meets its contract. Assumes nothing.
 use mathlib.Core.Path.{_∙_}
 use native.Mathlib.Omega.{arith}
+use borrow.Author.Needs.{needs, sfits-of}
 use mir.Syntax.{w32}
 use mir.Facts.{toZ-ofZ}
-use Rattle.machine.proofs.Equations.{carries, faults}
 use Rattle.cells.proofs.Tests.{needs-less, needs-met}
+use Rattle.cells.proofs.Tried.{carried-out, refused}
 use Rattle.operators.proofs.Outcomes.{compare-is}
-use borrow.Author.Needs.{needs, sfits-of}
 use Rattle.operators.proofs.comparisons.compare.Statement.{statement}
 use Rattle.operators.proofs.comparisons.compare.Tie as tie
 
-stop-requires : tie.Need-stop-requires
-stop-requires c κs = search needs
+stopped-requires : tie.Need-stopped-requires
+stopped-requires c κs = search needs
 
 returns : tie.Need-returns
-returns c n tables values =
-    rw (c .stop .ensures) (faults _ n _ _ 21 (compare-is _ n _ _ _ (c .before .before .pre .1 .0) (c .before .before .pre .1 .1) ∙ needs-less 2 _ _ (omega arith)))
+returns c n =
+    rw (c .stopped .ensures)
+    (refused λ tables values r. compare-is _ n _ _ _ (c .before .before .pre .1 .0) (c .before .before .pre .1 .1) ∙ needs-less 2 _ _ (omega (arith, c .before .if1 .taken)))
 
 peek-requires : tie.Need-peek-requires
 peek-requires c κs = search needs
@@ -35,28 +36,25 @@ truth-requires c κs = search needs
 poke-requires : tie.Need-poke-requires
 poke-requires c κs = search needs
 
-advance-requires : tie.Need-advance-requires
-advance-requires c κs = search needs
+sub-t13 : tie.Need-sub-t13
+sub-t13 c = search needs
 
-sub-with-cells : tie.Need-sub-with-cells
-sub-with-cells c = search needs
-
-with-cells-requires : tie.Need-with-cells-requires
-with-cells-requires c κs = search needs
+done-requires : tie.Need-done-requires
+done-requires c κs = search needs
 
 same-length : tie.Need-same-length
 same-length c = search needs
 
 returns-2 : tie.Need-returns-2
-returns-2 c n tables values =
-    rw (c .with-cells .ensures, c .before .advance .ensures, c .before .before .before .poke .ensures, toZ-ofZ (sfits-of {w = w32} {z = c .before .before .before .before .before .truth .result} (c .before .before .before .before .before .truth .ok)), c .before .before .before .before .before .truth .ensures, c .before .before .before .before .before .before .test .ensures, toZ-ofZ (sfits-of {w = w32} {z = c .before .before .before .before .before .before .before .before .before .peek .result} (c .before .before .before .before .before .before .before .before .before .peek .ok)), toZ-ofZ (sfits-of {w = w32} {z = c .before .before .before .before .before .before .before .peek2 .result} (c .before .before .before .before .before .before .before .peek2 .ok)), c .before .before .before .before .before .before .before .before .before .peek .ensures, c .before .before .before .before .before .before .before .peek2 .ensures)
-    (carries _ n _ _ _ (compare-is _ n _ _ _ (c .before .before .before .before .before .before .before .before .before .before .before .before .pre .1 .0) (c .before .before .before .before .before .before .before .before .before .before .before .before .pre .1 .1) ∙ needs-met 2 _ _ (omega (arith, c .before .before .before .before .before .before .before .before .before .before .before .if1 .left))))
+returns-2 c n =
+    rw (c .done .ensures, c .before .before .poke .ensures, toZ-ofZ (sfits-of {w = w32} {z = c .before .before .before .before .truth .result} (c .before .before .before .before .truth .ok)), c .before .before .before .before .truth .ensures, c .before .before .before .before .before .test .ensures, toZ-ofZ (sfits-of {w = w32} {z = c .before .before .before .before .before .before .before .before .peek .result} (c .before .before .before .before .before .before .before .before .peek .ok)), toZ-ofZ (sfits-of {w = w32} {z = c .before .before .before .before .before .before .peek2 .result} (c .before .before .before .before .before .before .peek2 .ok)), c .before .before .before .before .before .before .before .before .peek .ensures, c .before .before .before .before .before .before .peek2 .ensures)
+    (carried-out λ tables values r. compare-is _ n _ _ _ (c .before .before .before .before .before .before .before .before .before .before .before .pre .1 .0) (c .before .before .before .before .before .before .before .before .before .before .before .pre .1 .1) ∙ needs-met 2 _ _ (omega (arith, c .before .before .before .before .before .before .before .before .before .before .if1 .left)))
 
 pub compare-spec : {M : Type 1} → statement M
 compare-spec =
     tie.close
     (tie.spec
-    stop-requires
+    stopped-requires
     returns
     peek-requires
     sub-peek
@@ -64,8 +62,7 @@ compare-spec =
     test-requires
     truth-requires
     poke-requires
-    advance-requires
-    sub-with-cells
-    with-cells-requires
+    sub-t13
+    done-requires
     same-length
     returns-2)

@@ -1,34 +1,61 @@
 -- `operators::numbers::binary` meets its contract. Assumes nothing.
-use mathlib.Core.Path.{_≡_, sym, _∙_}
+use Prim.Native.Nat.{ℕ, _-_}
+use mathlib.Core.Path.{_≡_, ap, sym, _∙_}
+use mathlib.Core.Bool.{Bool, true, false, _&&_}
 use native.Mathlib.Omega.{arith}
-use borrow.Author.Needs.{sfits-of, needs}
+use borrow.Author.Needs.{needs}
 use denote.Ref.{now}
-use Prim.Native.Nat.{_-_}
-use lib.IntN.{pos}
+use lib.Dec.{leb, ltb}
+use lib.IntN.{ℤ, pos}
 use lib.ListN.{getD}
-use mir.Syntax.{w32}
-use mir.Facts.{toZ-ofZ}
+use lib.Signed.{mag}
+use Rattle.arithmetic.specs.Arithmetic.{eqZ}
 use Rattle.machine.specs.Size.{stackAt}
-use Rattle.machine.proofs.Equations.{carries, faults}
-use Rattle.cells.proofs.Tests.{needs-less, needs-met}
+use Rattle.cells.proofs.Fits.{fits-unless, narrow-is, narrows}
+use Rattle.cells.proofs.Tests.{needs-less, read-back}
+use Rattle.cells.proofs.Tried.{carried-out, refused}
 use Rattle.operators.specs.Operators.{computed}
-use Rattle.cells.proofs.Fits.{numbered-beyond, numbered-value}
-use Rattle.operators.proofs.Outcomes.{binary-is}
+use Rattle.operators.proofs.Outcomes.{binary-in, binary-is, binary-lacks, binary-out, not-lacking}
 use Rattle.operators.proofs.numbers.binary.Statement.{statement}
 use Rattle.operators.proofs.numbers.binary.Tie as tie
 
--- the number that was computed of the two cells
-number : (c : tie.After-compute) → computed (c .before .before .before .before .before .before .args .op) (getD (now (c .before .before .before .before .before .before .args .store)) (stackAt (c .before .before .before .before .before .before .args .size) (c .before .before .before .before .before .before .args .r .thread) (c .before .before .before .before .before .before .args .r .cells - 2)) (pos 0)) (getD (now (c .before .before .before .before .before .before .args .store)) (stackAt (c .before .before .before .before .before .before .args .size) (c .before .before .before .before .before .before .args .r .thread) (c .before .before .before .before .before .before .args .r .cells - 1)) (pos 0)) ≡ c .compute .result
-number c =
-    rw (← (c .before .before .before .peek .ensures), ← (c .before .peek2 .ensures))
-    (sym (rw (toZ-ofZ (sfits-of {w = w32} {z = c .before .before .before .peek .result} (c .before .before .before .peek .ok)), toZ-ofZ (sfits-of {w = w32} {z = c .before .peek2 .result} (c .before .peek2 .ok))) at (c .compute .ensures)))
+-- the cell k from the top, counted from 1
+abbrev cell : tie.Start → ℕ → ℤ
+cell s k = getD (now (s .args .store)) (stackAt (s .args .size) (s .args .t) (s .args .c .cells - k)) (pos 0)
 
-stop-requires : tie.Need-stop-requires
-stop-requires c κs = search needs
+abbrev lacking : tie.Start → Bool
+lacking s = leb 12 (s .args .op) && eqZ (cell s 1) (pos 0)
+
+abbrev result : tie.Start → ℤ
+result s = computed (s .args .op) (cell s 2) (cell s 1)
+
+-- the divisor was tested ..
+divisor : (c : tie.After-lacks-divisor) → c .lacks-divisor .result ≡ lacking (c .before .before .before .before .before .before)
+divisor c =
+    c .lacks-divisor .ensures
+    ∙ ap (λ (b : ℤ). leb 12 (c .before .before .before .before .before .before .args .op) && eqZ b (pos 0)) (read-back (c .before .peek2 .ok) (c .before .peek2 .ensures))
+
+there : (c : tie.Else2) → lacking (c .before .before .before .before .before .before .before) ≡ false
+there c = sym (divisor (c .before)) ∙ c .if2 .left
+
+-- .. and the result was computed, and tested
+number : (c : tie.After-compute) → c .compute .result ≡ result (c .before .before .before .before .before .before .before .before)
+number c =
+    rw (read-back (c .before .before .before .before .before .peek .ok) (c .before .before .before .before .before .peek .ensures), read-back (c .before .before .before .peek2 .ok) (c .before .before .before .peek2 .ensures)) at (c .compute .ensures)
+
+outside : (c : tie.Then3) → ltb (mag (result (c .before .before .before .before .before .before .before .before .before .before))) 2147483648 ≡ false
+outside c = fits-unless (c .before .before .compute .ok) (number (c .before .before)) (c .before .fits2 .ensures) (c .if3 .taken)
+
+inside : (c : tie.Else3) → ltb (mag (result (c .before .before .before .before .before .before .before .before .before .before))) 2147483648 ≡ true
+inside c = fits-unless (c .before .before .compute .ok) (number (c .before .before)) (c .before .fits2 .ensures) (c .if3 .left)
+
+stopped-requires : tie.Need-stopped-requires
+stopped-requires c κs = search needs
 
 returns : tie.Need-returns
-returns c n tables values =
-    rw (c .stop .ensures) (faults _ n _ _ 21 (binary-is _ n _ _ _ (c .before .before .pre .1 .0) (c .before .before .pre .1 .1) ∙ needs-less 2 _ _ (omega arith)))
+returns c n =
+    rw (c .stopped .ensures)
+    (refused λ tables values r. binary-is _ n _ _ _ (c .before .before .pre .1 .0) (c .before .before .pre .1 .1) ∙ needs-less 2 _ _ (omega (arith, c .before .if1 .taken)))
 
 peek-requires : tie.Need-peek-requires
 peek-requires c κs = search needs
@@ -39,64 +66,79 @@ sub-peek c = search needs
 peek-requires-2 : tie.Need-peek-requires-2
 peek-requires-2 c κs = search needs
 
-compute-requires : tie.Need-compute-requires
-compute-requires c κs = search needs
+lacks-divisor-requires : tie.Need-lacks-divisor-requires
+lacks-divisor-requires c κs = search needs
 
-enum-known-v : tie.Need-enum-known-v
-enum-known-v c = search needs
-
-enum-told : tie.Need-enum-told
-enum-told c = search needs
-
-stop-requires-2 : tie.Need-stop-requires-2
-stop-requires-2 c κs = search needs
+stopped-requires-2 : tie.Need-stopped-requires-2
+stopped-requires-2 c κs = search needs
 
 same-length : tie.Need-same-length
 same-length c = search needs
 
 returns-2 : tie.Need-returns-2
-returns-2 c n tables values =
-    rw (c .stop2 .ensures)
-    (faults _ n _ _ 24 (binary-is _ n _ _ _ (c .before .before .before .before .before .before .before .before .before .pre .1 .0) (c .before .before .before .before .before .before .before .before .before .pre .1 .1) ∙ needs-met 2 _ _ (omega (arith, c .before .before .before .before .before .before .before .before .if1 .left)) ∙ numbered-beyond _ _ (number (c .before .before .before) ∙ c .before .enum-told .given .1)))
+returns-2 c n =
+    rw (c .stopped2 .ensures)
+    (refused λ tables values r. binary-lacks _ n _ _ _ (c .before .before .before .before .before .before .before .before .pre .1 .0) (c .before .before .before .before .before .before .before .before .pre .1 .1) (c .before .before .before .before .before .before .before .if1 .left) (sym (divisor (c .before .before)) ∙ c .before .if2 .taken))
 
-poke-requires : tie.Need-poke-requires
-poke-requires c κs = search needs
+compute-requires : tie.Need-compute-requires
+compute-requires c κs =
+    (c .before .before .before .before .before .before .before .pre .1 .0, rw (read-back (c .before .before .peek2 .ok) (c .before .before .peek2 .ensures)) (not-lacking (c .before .before .before .before .before .before .before .args .op) (cell (c .before .before .before .before .before .before .before) 1) (there c)))
 
-advance-requires : tie.Need-advance-requires
-advance-requires c κs = search needs
+fits-requires : tie.Need-fits-requires
+fits-requires c κs = search needs
 
-sub-with-cells : tie.Need-sub-with-cells
-sub-with-cells c = search needs
-
-with-cells-requires : tie.Need-with-cells-requires
-with-cells-requires c κs = search needs
+stopped-requires-3 : tie.Need-stopped-requires-3
+stopped-requires-3 c κs = search needs
 
 same-length-2 : tie.Need-same-length-2
 same-length-2 c = search needs
 
 returns-3 : tie.Need-returns-3
-returns-3 c n tables values =
-    rw (c .with-cells .ensures, c .before .advance .ensures, c .before .before .before .poke .ensures, toZ-ofZ (sfits-of {w = w32} {z = c .before .before .before .before .before .before .v .given .0 .0} (c .before .before .before .before .before .known-told .given .0 .1)))
-    (carries _ n _ _ _ (binary-is _ n _ _ _ (c .before .before .before .before .before .before .before .before .before .before .before .before .before .before .pre .1 .0) (c .before .before .before .before .before .before .before .before .before .before .before .before .before .before .pre .1 .1) ∙ needs-met 2 _ _ (omega (arith, c .before .before .before .before .before .before .before .before .before .before .before .before .before .if1 .left)) ∙ numbered-value _ _ _ (number (c .before .before .before .before .before .before .before .before) ∙ c .before .before .before .before .before .before .v .given .1)))
+returns-3 c n =
+    rw (c .stopped3 .ensures)
+    (refused λ tables values r. binary-out _ n _ _ _ (c .before .before .before .before .before .before .before .before .before .before .before .pre .1 .0) (c .before .before .before .before .before .before .before .before .before .before .before .pre .1 .1) (c .before .before .before .before .before .before .before .before .before .before .if1 .left) (there (c .before .before .before .before)) (outside (c .before)))
+
+cast-poke : tie.Need-cast-poke
+cast-poke c = narrows (c .before .before .before .compute .ok) (number (c .before .before .before)) (inside (c .before))
+
+poke-requires : tie.Need-poke-requires
+poke-requires c κs = search needs
+
+sub-t13 : tie.Need-sub-t13
+sub-t13 c = search needs
+
+done-requires : tie.Need-done-requires
+done-requires c κs = search needs
+
+same-length-3 : tie.Need-same-length-3
+same-length-3 c = search needs
+
+returns-4 : tie.Need-returns-4
+returns-4 c n =
+    rw (c .done .ensures, c .before .before .poke .ensures, narrow-is (c .before .before .before .before .before .before .compute .ok) (number (c .before .before .before .before .before .before)) (inside (c .before .before .before .before)))
+    (carried-out λ tables values r. binary-in _ n _ _ _ (c .before .before .before .before .before .before .before .before .before .before .before .before .before .before .pre .1 .0) (c .before .before .before .before .before .before .before .before .before .before .before .before .before .before .pre .1 .1) (c .before .before .before .before .before .before .before .before .before .before .before .before .before .if1 .left) (there (c .before .before .before .before .before .before .before)) (inside (c .before .before .before .before)))
 
 pub binary-spec : {M : Type 1} → statement M
 binary-spec =
     tie.close
     (tie.spec
-    stop-requires
+    stopped-requires
     returns
     peek-requires
     sub-peek
     peek-requires-2
-    compute-requires
-    enum-known-v
-    enum-told
-    stop-requires-2
+    lacks-divisor-requires
+    stopped-requires-2
     same-length
     returns-2
-    poke-requires
-    advance-requires
-    sub-with-cells
-    with-cells-requires
+    compute-requires
+    fits-requires
+    stopped-requires-3
     same-length-2
-    returns-3)
+    returns-3
+    cast-poke
+    poke-requires
+    sub-t13
+    done-requires
+    same-length-3
+    returns-4)

@@ -1,84 +1,93 @@
 -- `operators::single::neg` meets its contract. Assumes nothing.
 use Prim.Native.Nat.{_-_}
-use mathlib.Core.Path.{_≡_, sym, _∙_}
+use mathlib.Core.Path.{_≡_, _∙_}
+use mathlib.Core.Bool.{true, false}
 use native.Mathlib.Omega.{arith}
+use borrow.Author.Needs.{needs}
 use denote.Ref.{now}
-use lib.IntN.{pos, negℤ}
+use lib.Dec.{ltb}
+use lib.IntN.{ℤ, pos, negℤ}
 use lib.ListN.{getD}
-use mir.Syntax.{w32}
-use mir.Facts.{toZ-ofZ}
+use lib.Signed.{mag}
 use Rattle.machine.specs.Size.{stackAt}
-use Rattle.machine.proofs.Equations.{carries, faults}
-use Rattle.cells.proofs.Tests.{needs-less, needs-met}
-use Rattle.arithmetic.specs.Arithmetic.{narrowed}
-use Rattle.cells.proofs.Fits.{numbered-beyond, numbered-value}
-use Rattle.operators.proofs.Outcomes.{neg-numbered}
-use borrow.Author.Needs.{needs, sfits-of}
+use Rattle.machine.proofs.Equations.{neg-is}
+use Rattle.cells.proofs.Fits.{fits-unless, narrow-is, narrows}
+use Rattle.cells.proofs.Tests.{needs-less, read-back}
+use Rattle.cells.proofs.Tried.{carried-out, refused}
+use Rattle.operators.proofs.Outcomes.{neg-in, neg-out}
 use Rattle.operators.proofs.single.neg.Statement.{statement}
 use Rattle.operators.proofs.single.neg.Tie as tie
 
--- the number that was computed of the cell
-number : (c : tie.After-neg) → narrowed (negℤ (getD (now (c .before .before .before .before .args .store)) (stackAt (c .before .before .before .before .args .size) (c .before .before .before .before .args .r .thread) (c .before .before .before .before .args .r .cells - 1)) (pos 0))) ≡ c .neg .result
-number c = rw (← (c .before .peek .ensures)) (sym (rw (toZ-ofZ (sfits-of {w = w32} {z = c .before .peek .result} (c .before .peek .ok))) at (c .neg .ensures)))
+-- the opposite of top
+abbrev opposite : tie.Start → ℤ
+opposite s =
+    negℤ (getD (now (s .args .store)) (stackAt (s .args .size) (s .args .t) (s .args .c .cells - 1)) (pos 0))
 
-stop-requires : tie.Need-stop-requires
-stop-requires c κs = search needs
+-- it is what was computed
+number : (c : tie.After-negated) → c .negated .result ≡ opposite (c .before .before .before .before)
+number c = rw (read-back (c .before .peek .ok) (c .before .peek .ensures)) at (c .negated .ensures)
+
+outside : (c : tie.Then2) → ltb (mag (opposite (c .before .before .before .before .before .before))) 2147483648 ≡ false
+outside c = fits-unless (c .before .before .negated .ok) (number (c .before .before)) (c .before .fits2 .ensures) (c .if2 .taken)
+
+inside : (c : tie.Else2) → ltb (mag (opposite (c .before .before .before .before .before .before))) 2147483648 ≡ true
+inside c = fits-unless (c .before .before .negated .ok) (number (c .before .before)) (c .before .fits2 .ensures) (c .if2 .left)
+
+stopped-requires : tie.Need-stopped-requires
+stopped-requires c κs = search needs
 
 returns : tie.Need-returns
-returns c n tables values =
-    rw (c .stop .ensures) (faults _ n _ _ 21 (neg-numbered _ n _ ∙ needs-less 1 _ _ (omega arith)))
+returns c n = rw (c .stopped .ensures) (refused λ tables values r. neg-is _ n _ ∙ needs-less 1 _ _ (omega (arith, c .before .if1 .taken)))
 
 peek-requires : tie.Need-peek-requires
 peek-requires c κs = search needs
 
-neg-requires : tie.Need-neg-requires
-neg-requires c κs = search needs
+negated-requires : tie.Need-negated-requires
+negated-requires c κs = search needs
 
-enum-known-v : tie.Need-enum-known-v
-enum-known-v c = search needs
+fits-requires : tie.Need-fits-requires
+fits-requires c κs = search needs
 
-enum-told : tie.Need-enum-told
-enum-told c = search needs
-
-stop-requires-2 : tie.Need-stop-requires-2
-stop-requires-2 c κs = search needs
+stopped-requires-2 : tie.Need-stopped-requires-2
+stopped-requires-2 c κs = search needs
 
 same-length : tie.Need-same-length
 same-length c = search needs
 
 returns-2 : tie.Need-returns-2
-returns-2 c n tables values =
-    rw (c .stop2 .ensures)
-    (faults _ n _ _ 24 (neg-numbered _ n _ ∙ needs-met 1 _ _ (omega (arith, c .before .before .before .before .before .before .if1 .left)) ∙ numbered-beyond _ _ (number (c .before .before .before) ∙ c .before .enum-told .given .1)))
+returns-2 c n = rw (c .stopped2 .ensures) (refused λ tables values r. neg-out _ n _ (c .before .before .before .before .before .before .if1 .left) (outside (c .before)))
+
+cast-poke : tie.Need-cast-poke
+cast-poke c = narrows (c .before .before .before .negated .ok) (number (c .before .before .before)) (inside (c .before))
 
 poke-requires : tie.Need-poke-requires
 poke-requires c κs = search needs
 
-advance-requires : tie.Need-advance-requires
-advance-requires c κs = search needs
+done-requires : tie.Need-done-requires
+done-requires c κs = search needs
 
 same-length-2 : tie.Need-same-length-2
 same-length-2 c = search needs
 
 returns-3 : tie.Need-returns-3
-returns-3 c n tables values =
-    rw (c .advance .ensures, c .before .before .poke .ensures, toZ-ofZ (sfits-of {w = w32} {z = c .before .before .before .before .before .v .given .0 .0} (c .before .before .before .before .known-told .given .0 .1)))
-    (carries _ n _ _ _ (neg-numbered _ n _ ∙ needs-met 1 _ _ (omega (arith, c .before .before .before .before .before .before .before .before .before .before .if1 .left)) ∙ numbered-value _ _ _ (number (c .before .before .before .before .before .before .before) ∙ c .before .before .before .before .before .v .given .1)))
+returns-3 c n =
+    rw (c .done .ensures, c .before .before .poke .ensures, narrow-is (c .before .before .before .before .before .before .negated .ok) (number (c .before .before .before .before .before .before)) (inside (c .before .before .before .before)))
+    (carried-out λ tables values r. neg-in _ n _ (c .before .before .before .before .before .before .before .before .before .if1 .left) (inside (c .before .before .before .before)))
 
 pub neg-spec : {M : Type 1} → statement M
 neg-spec =
     tie.close
     (tie.spec
-    stop-requires
+    stopped-requires
     returns
     peek-requires
-    neg-requires
-    enum-known-v
-    enum-told
-    stop-requires-2
+    negated-requires
+    fits-requires
+    stopped-requires-2
     same-length
     returns-2
+    cast-poke
     poke-requires
-    advance-requires
+    done-requires
     same-length-2
     returns-3)

@@ -1,20 +1,20 @@
 -- `operators::single::not` meets its contract. Assumes nothing.
 use mathlib.Core.Path.{_∙_}
 use native.Mathlib.Omega.{arith}
+use borrow.Author.Needs.{needs, sfits-of}
 use mir.Syntax.{w32}
 use mir.Facts.{toZ-ofZ}
-use Rattle.machine.proofs.Equations.{carries, faults, not-is}
+use Rattle.machine.proofs.Equations.{not-is}
 use Rattle.cells.proofs.Tests.{needs-less, needs-met}
-use borrow.Author.Needs.{needs, sfits-of}
+use Rattle.cells.proofs.Tried.{carried-out, refused}
 use Rattle.operators.proofs.single.not.Statement.{statement}
 use Rattle.operators.proofs.single.not.Tie as tie
 
-stop-requires : tie.Need-stop-requires
-stop-requires c κs = search needs
+stopped-requires : tie.Need-stopped-requires
+stopped-requires c κs = search needs
 
 returns : tie.Need-returns
-returns c n tables values =
-    rw (c .stop .ensures) (faults _ n _ _ 21 (not-is _ n _ ∙ needs-less 1 _ _ (omega arith)))
+returns c n = rw (c .stopped .ensures) (refused λ tables values r. not-is _ n _ ∙ needs-less 1 _ _ (omega (arith, c .before .if1 .taken)))
 
 peek-requires : tie.Need-peek-requires
 peek-requires c κs = search needs
@@ -28,27 +28,27 @@ truth-requires c κs = search needs
 poke-requires : tie.Need-poke-requires
 poke-requires c κs = search needs
 
-advance-requires : tie.Need-advance-requires
-advance-requires c κs = search needs
+done-requires : tie.Need-done-requires
+done-requires c κs = search needs
 
 same-length : tie.Need-same-length
 same-length c = search needs
 
 returns-2 : tie.Need-returns-2
-returns-2 c n tables values =
-    rw (c .advance .ensures, c .before .before .poke .ensures, toZ-ofZ (sfits-of {w = w32} {z = c .before .before .before .before .truth .result} (c .before .before .before .before .truth .ok)), c .before .before .before .before .truth .ensures, c .before .before .before .before .before .is-zero .ensures, toZ-ofZ (sfits-of {w = w32} {z = c .before .before .before .before .before .before .peek .result} (c .before .before .before .before .before .before .peek .ok)), c .before .before .before .before .before .before .peek .ensures)
-    (carries _ n _ _ _ (not-is _ n _ ∙ needs-met 1 _ _ (omega (arith, c .before .before .before .before .before .before .before .before .if1 .left))))
+returns-2 c n =
+    rw (c .done .ensures, c .before .before .poke .ensures, toZ-ofZ (sfits-of {w = w32} {z = c .before .before .before .before .truth .result} (c .before .before .before .before .truth .ok)), c .before .before .before .before .truth .ensures, c .before .before .before .before .before .is-zero .ensures, toZ-ofZ (sfits-of {w = w32} {z = c .before .before .before .before .before .before .peek .result} (c .before .before .before .before .before .before .peek .ok)), c .before .before .before .before .before .before .peek .ensures)
+    (carried-out λ tables values r. not-is _ n _ ∙ needs-met 1 _ _ (omega (arith, c .before .before .before .before .before .before .before .before .if1 .left)))
 
 pub not-spec : {M : Type 1} → statement M
 not-spec =
     tie.close
     (tie.spec
-    stop-requires
+    stopped-requires
     returns
     peek-requires
     is-zero-requires
     truth-requires
     poke-requires
-    advance-requires
+    done-requires
     same-length
     returns-2)

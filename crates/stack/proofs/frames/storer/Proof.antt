@@ -1,18 +1,19 @@
 -- `stack::frames::storer` meets its contract. Assumes nothing.
 use mathlib.Core.Path.{_∙_}
 use native.Mathlib.Omega.{arith}
-use borrow.Author.Needs.{needs}
 use lib.IntN.{pos, _+ℤ_}
-use Rattle.machine.proofs.Equations.{carries, faults, storer-is}
+use Rattle.machine.proofs.Equations.{storer-is}
 use Rattle.cells.proofs.Tests.{in-below, needs-less, needs-met, of-frame, read-back, within-in, within-out}
+use Rattle.cells.proofs.Tried.{carried-out, refused}
+use borrow.Author.Needs.{needs}
 use Rattle.stack.proofs.frames.storer.Statement.{statement}
 use Rattle.stack.proofs.frames.storer.Tie as tie
 
-stop-requires : tie.Need-stop-requires
-stop-requires c κs = search needs
+stopped-requires : tie.Need-stopped-requires
+stopped-requires c κs = search needs
 
 returns : tie.Need-returns
-returns c n tables values = rw (c .stop .ensures) (faults _ n _ _ 21 (storer-is _ n _ _ ∙ needs-less 1 _ _ (omega arith)))
+returns c n = rw (c .stopped .ensures) (refused λ tables values r. storer-is _ n _ _ ∙ needs-less 1 _ _ (omega arith))
 
 offset-requires : tie.Need-offset-requires
 offset-requires c κs = search needs
@@ -23,44 +24,44 @@ enum-known-i c = search needs
 enum-told : tie.Need-enum-told
 enum-told c = search needs
 
-stop-requires-2 : tie.Need-stop-requires-2
-stop-requires-2 c κs = search needs
+stopped-requires-2 : tie.Need-stopped-requires-2
+stopped-requires-2 c κs = search needs
 
 returns-2 : tie.Need-returns-2
-returns-2 c n tables values =
-    rw (c .stop2 .ensures)
-    (faults _ n _ _ 23 (storer-is _ n _ _ ∙ needs-met 1 _ _ (omega arith) ∙ within-out _ _ _ _ (of-frame _ _ (c .before .before .before .before .before .fits .k) (c .before .before .before .offset .ensures) ∙ c .before .enum-told .given .1)))
+returns-2 c n =
+    rw (c .stopped2 .ensures)
+    (refused λ tables values r. storer-is _ n _ _ ∙ needs-met 1 _ _ (omega arith) ∙ within-out _ _ _ _ (of-frame _ _ (c .before .before .before .before .before .fits .k) (c .before .before .before .offset .ensures) ∙ c .before .enum-told .given .1))
 
 peek-requires : tie.Need-peek-requires
 peek-requires c κs = search needs
 
 poke-requires : tie.Need-poke-requires
-poke-requires c κs = omega (arith, in-below (pos (c .before .before .before .before .before .before .before .before .args .r .fp) +ℤ c .before .before .before .before .before .before .before .before .args .k) _ _ (of-frame _ _ (c .before .before .before .before .before .before .before .before .fits .k) (c .before .before .before .before .before .before .offset .ensures) ∙ c .before .before .before .before .i .given .1))
+poke-requires c κs = omega (arith, in-below (pos (c .before .before .before .before .before .before .before .before .args .c .fp) +ℤ c .before .before .before .before .before .before .before .before .args .k) _ _ (of-frame _ _ (c .before .before .before .before .before .before .before .before .fits .k) (c .before .before .before .before .before .before .offset .ensures) ∙ c .before .before .before .before .i .given .1))
 
-advance-requires : tie.Need-advance-requires
-advance-requires c κs = search needs
+done-requires : tie.Need-done-requires
+done-requires c κs = search needs
 
 same-length : tie.Need-same-length
 same-length c = search needs
 
 returns-3 : tie.Need-returns-3
-returns-3 c n tables values =
-    rw (c .advance .ensures, c .before .before .poke .ensures, read-back (c .before .before .before .before .peek .ok) (c .before .before .before .before .peek .ensures))
-    (carries _ n _ _ _ (storer-is _ n _ _ ∙ needs-met 1 _ _ (omega arith) ∙ within-in _ _ _ _ _ (of-frame _ _ (c .before .before .before .before .before .before .before .before .before .before .before .fits .k) (c .before .before .before .before .before .before .before .before .before .offset .ensures) ∙ c .before .before .before .before .before .before .before .i .given .1)))
+returns-3 c n =
+    rw (c .done .ensures, c .before .before .poke .ensures, read-back (c .before .before .before .before .peek .ok) (c .before .before .before .before .peek .ensures))
+    (carried-out λ tables values r. storer-is _ n _ _ ∙ needs-met 1 _ _ (omega arith) ∙ within-in _ _ _ _ _ (of-frame _ _ (c .before .before .before .before .before .before .before .before .before .before .before .fits .k) (c .before .before .before .before .before .before .before .before .before .offset .ensures) ∙ c .before .before .before .before .before .before .before .i .given .1))
 
 pub storer-spec : {M : Type 1} → statement M
 storer-spec =
     tie.close
     (tie.spec
-    stop-requires
+    stopped-requires
     returns
     offset-requires
     enum-known-i
     enum-told
-    stop-requires-2
+    stopped-requires-2
     returns-2
     peek-requires
     poke-requires
-    advance-requires
+    done-requires
     same-length
     returns-3)

@@ -1,17 +1,18 @@
 -- `stack::stack_ops::dup` meets its contract. Assumes nothing.
 use mathlib.Core.Path.{_∙_}
 use native.Mathlib.Omega.{arith}
+use Rattle.machine.proofs.Equations.{dup-is}
+use Rattle.cells.proofs.Tests.{needs-less, needs-met}
+use Rattle.cells.proofs.Tried.{pushes, refused}
 use borrow.Author.Needs.{needs}
-use Rattle.machine.proofs.Equations.{dup-is, faults}
-use Rattle.cells.proofs.Tests.{needs-less, needs-met, pushes}
 use Rattle.stack.proofs.stack_ops.dup.Statement.{statement}
 use Rattle.stack.proofs.stack_ops.dup.Tie as tie
 
-stop-requires : tie.Need-stop-requires
-stop-requires c κs = search needs
+stopped-requires : tie.Need-stopped-requires
+stopped-requires c κs = search needs
 
 returns : tie.Need-returns
-returns c n tables values = rw (c .stop .ensures) (faults _ n _ _ 21 (dup-is _ n _ ∙ needs-less 1 _ _ (omega arith)))
+returns c n = rw (c .stopped .ensures) (refused λ tables values r. dup-is _ n _ ∙ needs-less 1 _ _ (omega arith))
 
 peek-requires : tie.Need-peek-requires
 peek-requires c κs = search needs
@@ -23,9 +24,9 @@ same-length : tie.Need-same-length
 same-length c = search needs
 
 returns-2 : tie.Need-returns-2
-returns-2 c n tables values =
-    pushes _ n _ _ (c .before .before .before .peek .ok) (c .before .before .before .peek .ensures) (c .before .loadc .ensures n tables values) (dup-is _ n _ ∙ needs-met 1 _ _ (omega arith))
+returns-2 c n = pushes (c .before .before .before .peek .ok) (c .before .before .before .peek .ensures) (c .before .loadc .ensures n) (λ tables values r. dup-is _ n _ ∙ needs-met 1 _ _ (omega arith))
 
 pub dup-spec : {M : Type 1} → statement M
 dup-spec =
-    tie.close (tie.spec stop-requires returns peek-requires loadc-requires same-length returns-2)
+    tie.close
+    (tie.spec stopped-requires returns peek-requires loadc-requires same-length returns-2)

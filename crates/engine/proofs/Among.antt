@@ -1,0 +1,124 @@
+-- Turns under way: threads that run one after another, whatever values stand beside. Assumes nothing.
+use Prim.Native.Nat.{ℕ, _-_, _<_, _≤_}
+use mathlib.Core.Path.{_≡_, refl, ap, sym, _∙_}
+use mathlib.Core.Bool.{true}
+use mathlib.Core.List.{List}
+use mathlib.Core.Logic.{_≢_}
+use native.Mathlib.Omega.{arith}
+use lib.IntN.{ℤ, pos}
+use lib.ListN.{length}
+use Rattle.card.specs.Code.{Unpacked, instructionAt}
+use Rattle.cells.specs.Contract.{Acts}
+use Rattle.dispatch.specs.Contract.{Working}
+use Rattle.engine.specs.Contract.{Carded, Carries, Housed, Inside, Seated, Turning, Under, stateAt}
+use Rattle.engine.proofs.Course.{entered, one-done, one-fault, onward-from}
+use Rattle.engine.proofs.Taking.{contextOf, only-turn, same-turn, stays-idle}
+use Rattle.engine.proofs.Working.{at-pc, runner-lives, working}
+use Rattle.machine.specs.Calls.{boxed}
+use Rattle.machine.specs.Context.{inContext}
+use Rattle.machine.specs.Instructions.{Instruction, instructionOf}
+use Rattle.machine.specs.Laws.{Sound}
+use Rattle.machine.specs.Registers.{faulted, running}
+use Rattle.machine.specs.State.{State}
+use Rattle.machine.specs.Step.{executed}
+use Rattle.machine.specs.Tables.{lives, tablesOf}
+use Rattle.machine.specs.declared.context.Context.{Context}
+use Rattle.machine.specs.declared.registers.Registers.{Registers}
+use Rattle.tables.specs.Idle.{Idle}
+
+-- turns that began with m left have come to this, and so many at the front of the line don't live
+pub record Among (size : ℕ) (code : List ℕ) (r : Registers) (m : ℕ) (store₀ : List ℤ) (tables₀ : List ℕ) (t₀ : ℕ) (c₀ : Context) (store : List ℤ) (tables : List ℕ) (t : ℕ) (c : Context) (left skip : ℕ) : Type 0 where
+  pub seat : Seated size store₀ tables₀ (inContext r t₀ c₀)
+  pub under : (values : List ℤ) → Sound size (boxed store₀ tables₀ values (inContext r t₀ c₀)) →
+      Under size code m store₀ tables₀ values (inContext r t₀ c₀) store tables values (inContext r t c) left
+  pub idle : Idle (tablesOf size tables) skip
+  pub store-long : length store ≡ length store₀
+  pub tables-long : length tables ≡ length tables₀
+
+module _ (size : ℕ) (code : List ℕ) (n : ℕ) (card : Carded code n) (r : Registers) (m : ℕ) (store₀ : List ℤ) (tables₀ : List ℕ) (t₀ : ℕ) (c₀ : Context) where
+  pub among : Seated size store₀ tables₀ (inContext r t₀ c₀) → Among size code r m store₀ tables₀ t₀ c₀ store₀ tables₀ t₀ c₀ m 0
+  among seat =
+      record {
+        seat = seat;
+        under = λ values h. entered size code n card m store₀ tables₀ values (inContext r t₀ c₀) h;
+        idle = tt;
+        store-long = refl;
+        tables-long = refl;
+      }
+
+  module _ (store : List ℤ) (tables : List ℕ) (t : ℕ) (c : Context) (left skip : ℕ) (a : Among size code r m store₀ tables₀ t₀ c₀ store tables t c left skip) where
+    pub somewhere : Under size code m store₀ tables₀ (a .seat .values) (inContext r t₀ c₀) store tables (a .seat .values) (inContext r t c) left
+    somewhere = a .under (a .seat .values) (a .seat .sound)
+
+    module _ (runs : r .state ≡ running) (small : size ≤ 32) (below : c .pc < n) where
+      -- what the next instruction asks
+      pub works : Working size (inContext r t c) (length store) tables (a .seat .values)
+      works = working code n card size store tables (a .seat .values) (inContext r t c) (somewhere .sound) runs small below
+
+      pub live : lives (tablesOf size tables) t ≡ true
+      live = runner-lives size store tables (a .seat .values) (inContext r t c) (somewhere .sound) runs
+
+      module _ (some : 1 ≤ left) (turning : Turning (instructionAt code (c .pc) .opcode)) (tables′ : List ℕ) (q : Registers) (same : length tables′ ≡ length tables) (acts : Acts size (instructionOf (instructionAt code (c .pc) .opcode) (pos 0)) store tables (inContext r t c) store tables′ q) where
+        abbrev i : Instruction
+        i = instructionOf (instructionAt code (c .pc) .opcode) (pos 0)
+
+        does : (values : List ℤ) → stateAt size store tables′ values q ≡ executed size n (stateAt size store tables values (inContext r t c)) i .state
+        does values = acts n values
+
+        is : (values : List ℤ) → Carries size code store tables values (inContext r t c) store tables′ values q
+        is values =
+            does values
+            ∙ ap (λ (j : Instruction). executed size n (stateAt size store tables values (inContext r t c)) j .state) (sym (same-turn _ (instructionAt code (c .pc) .operand) turning))
+            ∙ at-pc code n card size (stateAt size store tables values (inContext r t c)) below
+
+        -- it is a fault, ..
+        pub turn-faults : q .state ≡ faulted → (values : List ℤ) → Sound size (boxed store₀ tables₀ values (inContext r t₀ c₀)) →
+            Under size code m store₀ tables₀ values (inContext r t₀ c₀) store tables′ values q left
+        turn-faults wrong values h =
+            one-fault size code n card m store₀ tables₀ values (inContext r t₀ c₀) store tables values (inContext r t c) left (a .under values h) some runs store tables′ values q same (is values) wrong
+
+        -- .. or it was carried out, ..
+        pub turn-done : q .state ≢ faulted → (values : List ℤ) → Sound size (boxed store₀ tables₀ values (inContext r t₀ c₀)) →
+            Under size code m store₀ tables₀ values (inContext r t₀ c₀) store tables′ values q (left - 1)
+        turn-done fine values h =
+            one-done size code n card m store₀ tables₀ values (inContext r t₀ c₀) store tables values (inContext r t c) left (a .under values h) some runs store tables′ values q same (is values) fine
+
+        module _ (on : q .state ≡ running) where
+          -- .. and the machine runs on: some thread, in its context
+          only : q ≡ inContext r (q .thread) (contextOf q)
+          only =
+              let regs = ap (λ (s : State). s .regs) (does (a .seat .values)) in
+              let kept = only-turn size n (stateAt size store tables (a .seat .values) (inContext r t c)) _ turning in
+              (rw (← regs) at kept) on
+
+          next : (values : List ℤ) → Sound size (boxed store₀ tables₀ values (inContext r t₀ c₀)) →
+              Under size code m store₀ tables₀ values (inContext r t₀ c₀) store tables′ values (inContext r (q .thread) (contextOf q)) (left - 1)
+          next values h = rw (← only) (turn-done (λ e. omega (arith, on, e)) values h)
+
+          pub houses : Housed size store (q .thread) (contextOf q)
+          houses = record { tables = tables′; values = a .seat .values; r = r; runs = runs; sound = next (a .seat .values) (a .seat .sound) .sound }
+
+          -- with a stretch of that thread behind it
+          pub among-more : (words : List ℕ) (k : ℕ) → Unpacked code n words k → (store′ : List ℤ) (c′ : Context) (rest skip′ : ℕ) → length store′ ≡ length store → Idle (tablesOf size tables) skip′ →
+              Inside size words k (left - 1) store (q .thread) (contextOf q) store′ c′ rest →
+              Among size code r m store₀ tables₀ t₀ c₀ store′ tables′ (q .thread) c′ rest skip′
+          among-more words k unpacked store′ c′ rest skip′ long idle inside =
+              record {
+                seat = a .seat;
+                under = λ values h.
+                    onward-from size code n card m store₀ tables₀ values (inContext r t₀ c₀) store tables′ values (inContext r (q .thread) (contextOf q)) (left - 1) (next values h) store′ tables′ values (inContext r (q .thread) c′) rest (inside code n card unpacked tables′ values r runs (next values h .sound));
+                idle =
+                    rw (ap (λ (s : State). s .tables) (does (a .seat .values)))
+                    (stays-idle size n skip′ _ (stateAt size store tables (a .seat .values) (inContext r t c)) turning live idle);
+                store-long = long ∙ a .store-long;
+                tables-long = same ∙ a .tables-long;
+              }
+
+-- turns that began with a stretch
+pub joined : (size : ℕ) (code : List ℕ) (n : ℕ) (card : Carded code n) (words : List ℕ) (k : ℕ) → Unpacked code n words k → (r : Registers) → r .state ≡ running → (m : ℕ) (store : List ℤ) (tables : List ℕ) (store₀ : List ℤ) (c₀ : Context) (left₀ : ℕ) →
+    Inside size words k m store (r .thread) (contextOf r) store₀ c₀ left₀ → (store′ : List ℤ) (tables′ : List ℕ) (q : Registers) (rest : ℕ) →
+    ((values : List ℤ) → Sound size (boxed store₀ tables values (inContext r (r .thread) c₀)) → Under size code left₀ store₀ tables values (inContext r (r .thread) c₀) store′ tables′ values q rest) →
+    (values : List ℤ) → Sound size (boxed store tables values r) → Under size code m store tables values r store′ tables′ values q rest
+joined size code n card words k unpacked r runs m store tables store₀ c₀ left₀ inside store′ tables′ q rest more values h =
+    let u = inside code n card unpacked tables values r runs h in
+    onward-from size code n card m store tables values r store₀ tables values (inContext r (r .thread) c₀) left₀ u store′ tables′ values q rest (more values (u .sound))
