@@ -145,21 +145,39 @@ static int measure(const char *file, uint64_t steps)
     return differ;
 }
 
-int main(int argc, char **argv)
+/* One run, and how many steps it made: for a count of the processor's instructions. */
+static int once(engine_run *run, const char *file, uint64_t steps)
+{
+    static uint8_t image[INPUT];
+    struct engine_end end;
+
+    printf("%" PRId64 "\n", run(image, read_file(file, image), steps, &end));
+    return 0;
+}
+
+static engine_run *engine_named(const char *name)
 {
     int e;
 
-    if (argc >= 3 && strcmp(argv[1], "lines") == 0) {
-        for (e = 0; e < ENGINES; e++)
-            if (strcmp(argv[2], engines[e].name) == 0)
-                return argc > 3 ? lines_of_files(engines[e].run, argc - 3, argv + 3)
-                                : lines_of_stream(engines[e].run);
-        die("no such engine");
-    }
+    for (e = 0; e < ENGINES; e++)
+        if (strcmp(name, engines[e].name) == 0)
+            return engines[e].run;
+    die("no such engine");
+    return NULL;
+}
+
+int main(int argc, char **argv)
+{
+    if (argc >= 3 && strcmp(argv[1], "lines") == 0)
+        return argc > 3 ? lines_of_files(engine_named(argv[2]), argc - 3, argv + 3)
+                        : lines_of_stream(engine_named(argv[2]));
+    if (argc == 5 && strcmp(argv[1], "once") == 0)
+        return once(engine_named(argv[2]), argv[3], strtoull(argv[4], NULL, 10));
     if (argc == 3)
         return measure(argv[1], strtoull(argv[2], NULL, 10));
     fprintf(stderr, "bench CARD STEPS           steps a second of each engine on a card\n"
                     "bench lines ENGINE FILE... the runner's line for each file\n"
-                    "bench lines ENGINE         framed images on standard input: the lines\n");
+                    "bench lines ENGINE         framed images on standard input: the lines\n"
+                    "bench once ENGINE CARD STEPS  one run, and the number of steps it made\n");
     return 2;
 }

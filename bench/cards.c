@@ -1,5 +1,5 @@
-/* Writes the five cards to measure with into a directory. Each ends by itself after some tens of
-   millions of steps, thread 0's result being something that all of them led to. */
+/* Writes the cards to measure with into a directory. Each ends by itself after some tens of millions
+   of steps, thread 0's result being something that all of them led to. */
 
 #include <stdint.h>
 #include <stdio.h>
@@ -191,12 +191,13 @@ static void locks(const char *directory)
     finish(directory, "locks");
 }
 
-/* Eight threads that do hardly anything but yield. */
-static void yields(const char *directory)
+/* So many threads that do hardly anything but yield, 8,000,000 times in all. */
+static void yields(const char *directory, const char *name, int threads)
 {
-    int i, again, out, entry[7], body;
+    enum { MOST = 32 };
+    int i, again, out, entry[MOST - 1], body;
 
-    for (i = 0; i < 7; i++) {
+    for (i = 0; i < threads - 1; i++) {
         entry[i] = op(LOADC, 0);
         op(LOADC, i);
         op(CREATE, 0);
@@ -206,16 +207,16 @@ static void yields(const char *directory)
     body = op(LOADC, 0);
     op(CALL, 0);
     op(POP, 0);
-    for (i = 0; i < 7; i++) {
+    for (i = 0; i < threads - 1; i++) {
         op(JOIN, 0);
         op(POP, 0);
     }
     op(RETURN, 0);
 
-    for (i = 0; i < 7; i++)
+    for (i = 0; i < threads - 1; i++)
         here(entry[i]);
     here(body);
-    op(LOADC, 1000000); /* counts on top of the stack */
+    op(LOADC, 8000000 / threads); /* counts on top of the stack */
     again = n;
     op(YIELD, 0);
     op(LOADC, 1);
@@ -225,7 +226,24 @@ static void yields(const char *directory)
     op(JUMP, again);
     here(out);
     op(RETURN, 0);
-    finish(directory, "yields");
+    finish(directory, name);
+}
+
+/* A card of so many instructions, nearly all of them in one loop, some 60,000,000 steps. */
+static void length(const char *directory, const char *name, int instructions)
+{
+    int i, again, out;
+
+    op(LOADC, 60000000 / instructions); /* frame cell 1 */
+    out = loop_head(1, &again);
+    for (i = 0; i < (instructions - 11) / 2; i++) {
+        op(LOADC, i);
+        op(POP, 0);
+    }
+    loop_tail(1, again, out);
+    op(LOADR, 1);
+    op(EXIT, 0);
+    finish(directory, name);
 }
 
 /* All arithmetic and all comparisons, on numbers that keep changing. */
@@ -286,13 +304,19 @@ static void soup(const char *directory)
 int main(int argc, char **argv)
 {
     if (argc != 2) {
-        fprintf(stderr, "cards DIRECTORY      writes the five cards to measure with\n");
+        fprintf(stderr, "cards DIRECTORY      writes the cards to measure with\n");
         return 2;
     }
     counting(argv[1]);
     calls(argv[1]);
     locks(argv[1]);
-    yields(argv[1]);
+    yields(argv[1], "yields", 8);
     soup(argv[1]);
+    yields(argv[1], "threads2", 2);
+    yields(argv[1], "threads8", 8);
+    yields(argv[1], "threads32", 32);
+    length(argv[1], "length16", 16);
+    length(argv[1], "length256", 256);
+    length(argv[1], "length4096", 4096);
     return 0;
 }

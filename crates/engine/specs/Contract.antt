@@ -57,6 +57,10 @@ pub record Under (size : ℕ) (code : List ℕ) (m : ℕ) (store₀ : List ℤ) 
   pub course : Course size (wordsOf code) (stateAt size store₀ tables₀ values₀ r₀) m
       (stateAt size store tables values r) (m - left)
 
+-- a context of its three numbers
+abbrev pub contextAt : ℕ → ℕ → ℕ → Context
+contextAt pc cells fp = record { pc = pc; cells = cells; fp = fp }
+
 -- the words of some accepted card, unpacked
 pub record Loaded (words : List ℕ) (k : ℕ) : Type 0 where
   pub code : List ℕ

@@ -3,7 +3,7 @@
 // carried out ends it, with nothing changed: what then is to be done is not for this loop. It is called from two
 // places, and so the compiler leaves it a function of its own.
 ghost use Prim.Native.Nat.{_≤_};
-ghost use Rattle.engine.specs.Contract.{Housed, Loaded, Stretched};
+ghost use Rattle.engine.specs.Contract.{Housed, Loaded, Stretched, contextAt};
 use machine::Context;
 
 pub struct Reached {
@@ -13,21 +13,26 @@ pub struct Reached {
 }
 
 // Runs thread `t` for at most `m` of the card's `n` instructions, which are unpacked in `words`; with n of 0, for none.
+// The context comes as three numbers: a struct would go by way of memory.
 pub fn stretch(
     words: &[u32],
     store: &mut [i32],
     size: usize,
     t: usize,
     n: usize,
-    c: Context,
+    pc: usize,
+    cells: usize,
+    fp: usize,
     m: usize,
 ) -> Reached
     requires { ⌜ Loaded (now words) n ⌝ }
     requires { ⌜ size ≤ 32 ⌝ }
-    requires { ⌜ Housed size (now store) t c ⌝ }
-    ensures { λ p. ⌜ Stretched size (now (words .entry)) n m (now (store .entry)) t c (now (store .exit)) p ⌝ }
+    requires { ⌜ Housed size (now store) t (contextAt pc cells fp) ⌝ }
+    ensures { λ p.
+        ⌜ Stretched size (now (words .entry)) n m (now (store .entry)) t (contextAt pc cells fp)
+        (now (store .exit)) p ⌝ }
 {
-    let mut context = c;
+    let mut context = Context { pc, cells, fp };
     let mut left = m;
     while 0 < left {
         let pc = context.pc;

@@ -13,7 +13,6 @@ ghost use Rattle.machine.specs.Tables.{tablesOf};
 ghost use Rattle.tables.specs.Good.{Good};
 ghost use Rattle.tables.specs.Idle.{Idle, IdleAfter};
 use crate::stretches::stretch;
-use machine::Context;
 use machine::Registers;
 use machine::Thread;
 use machine::states;
@@ -92,13 +91,8 @@ pub fn turns(
         ⌜ Turned size (now (code .entry)) n m (now (store .entry)) (now (tables .entry)) r
         (now (store .exit)) (now (tables .exit)) p ⌝ }
 {
-    let start = Context {
-        pc: r.pc,
-        cells: r.cells,
-        fp: r.fp,
-    };
     let mut thread = r.thread;
-    let first = stretch(words, store, size, thread, k, start, m);
+    let first = stretch(words, store, size, thread, k, r.pc, r.cells, r.fp, m);
     let mut context = first.context;
     let mut left = first.left;
     // So many at the front of the line don't live: a search need not look at them.
@@ -135,12 +129,17 @@ pub fn turns(
             };
         }
         thread = after.thread;
-        let reached = Context {
-            pc: after.pc,
-            cells: after.cells,
-            fp: after.fp,
-        };
-        let more = stretch(words, store, size, thread, k, reached, left);
+        let more = stretch(
+            words,
+            store,
+            size,
+            thread,
+            k,
+            after.pc,
+            after.cells,
+            after.fp,
+            left,
+        );
         context = more.context;
         left = more.left;
     }

@@ -10,11 +10,11 @@ use Rattle.engine.proofs.stretches.stretch.Statement.{statement}
 use Rattle.engine.proofs.stretches.stretch.Tie as tie
 
 abbrev Inv-loop : tie.InvT-loop
-Inv-loop words store₀ size t n m context₀ left₀ store context left =
+Inv-loop words store₀ size t n pc cells fp m context₀ left₀ store context left =
     Inside size words n m store₀ t context₀ store context left × (length store ≡ length store₀)
 
 abbrev μ-loop : tie.MeasureT-loop
-μ-loop words store₀ size t n m context₀ left₀ store context left =
+μ-loop words store₀ size t n pc cells fp m context₀ left₀ store context left =
     left
 
 loop-holds : tie.Need-loop-holds Inv-loop μ-loop
