@@ -71,12 +71,6 @@ fn onward(
             left: m,
         };
     }
-    if after.state != states::RUNNING {
-        return Standing {
-            registers: after,
-            left: m - 1,
-        };
-    }
     turns(code, words, store, tables, size, n, k, after, m - 1)
 }
 
@@ -101,12 +95,6 @@ pub fn run(
         ⌜ Lasts size (now (code .entry)) (now (store .entry)) (now (tables .entry)) (now (values .entry)) r m
         (now (store .exit)) (now (tables .exit)) (now (values .exit)) p ⌝ }
 {
-    if r.state != states::RUNNING {
-        return Progress {
-            registers: r,
-            count: 0,
-        };
-    }
     let first = turns(code, words, store, tables, size, n, k, r, m);
     let mut registers = first.registers;
     let mut left = first.left;

@@ -1,7 +1,6 @@
 // Turns: the threads run one after another, each until it yields or has to wait for a mutex. The instructions that
 // change turns most often, yield, lock and unlock, are taken here, beside the loop of a thread's own: of the registers
 // they change the running thread and its context alone, which are therefore all that is carried from turn to turn.
-ghost use mathlib.Core.Path.{_≡_};
 ghost use Prim.Native.Nat.{_≤_};
 ghost use lib.IntN.{pos};
 ghost use lib.ListN.{length};
@@ -86,11 +85,16 @@ pub fn turns(
     requires { ⌜ Unpacked (now code) n (now words) k ⌝ }
     requires { ⌜ size ≤ 32 ⌝ }
     requires { ⌜ Seated size (now store) (now tables) r ⌝ }
-    requires { ⌜ r .state ≡ 1 ⌝ }
     ensures { λ p.
         ⌜ Turned size (now (code .entry)) n m (now (store .entry)) (now (tables .entry)) r
         (now (store .exit)) (now (tables .exit)) p ⌝ }
 {
+    if r.state != states::RUNNING {
+        return Standing {
+            registers: r,
+            left: m,
+        };
+    }
     let mut thread = r.thread;
     let first = stretch(words, store, size, thread, k, r.pc, r.cells, r.fp, m);
     let mut context = first.context;

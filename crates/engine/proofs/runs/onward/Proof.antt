@@ -27,8 +27,14 @@ returns c =
       went = λ runs. absurd (omega (arith, c .if1 .taken, runs));
     }
 
-sub-t19 : tie.Need-sub-t19
-sub-t19 c = c .before .before .before .before .before .before .before .before .before .before .before .before .before .before .before .pre .1 .1 .1 .1 .1 .1
+sub-turns : tie.Need-sub-turns
+sub-turns c = c .before .before .before .before .before .before .before .before .before .before .before .before .before .before .before .pre .1 .1 .1 .1 .1 .1
+
+turns-requires : tie.Need-turns-requires
+turns-requires c κs =
+    let given = c .before .before .before .before .before .before .before .before .before .before .before .before .before .before .before .pre in
+    let start = entered _ _ _ (given .0) (c .before .before .before .before .before .before .before .before .before .before .before .before .before .before .before .args .m) _ _ _ _ (given .1 .1 .1 .0) in
+    (given .0, (given .1 .0, (given .1 .1 .0, record { values = _; sound = (one-done _ _ _ (given .0) _ _ _ _ _ _ _ _ _ _ start (given .1 .1 .1 .1 .1 .1) (given .1 .1 .1 .1 .0) _ _ _ _ (c .before .before .before .before .before .before .before .before .carry .kept .1 .1 .0) (c .before .before .before .before .before .before .before .before .carry .ensures) (c .before .before .if1 .left)) .sound })))
 
 same-length-4 : tie.Need-same-length-4
 same-length-4 c = search needs
@@ -41,37 +47,9 @@ same-length-6 c = search needs
 
 returns-2 : tie.Need-returns-2
 returns-2 c =
-    let given = c .before .before .before .before .before .before .before .before .before .before .before .before .before .before .before .pre in
-    let start = entered _ _ _ (given .0) (c .before .before .before .before .before .before .before .before .before .before .before .before .before .before .before .args .m) _ _ _ _ (given .1 .1 .1 .0) in
-    record {
-      under = one-done _ _ _ (given .0) _ _ _ _ _ _ _ _ _ _ start (given .1 .1 .1 .1 .1 .1) (given .1 .1 .1 .1 .0) _ _ _ _ (c .before .before .before .before .before .before .before .before .carry .kept .1 .1 .0) (c .before .before .before .before .before .before .before .before .carry .ensures) (c .before .before .if1 .left);
-      ends = λ some runs below. absurd (c .if2 .taken runs);
-      went = λ runs. absurd (c .if2 .taken runs);
-    }
-
-sub-turns : tie.Need-sub-turns
-sub-turns c = c .before .before .before .before .before .before .before .before .before .before .before .before .before .before .before .before .before .pre .1 .1 .1 .1 .1 .1
-
-turns-requires : tie.Need-turns-requires
-turns-requires c κs =
-    let given = c .before .before .before .before .before .before .before .before .before .before .before .before .before .before .before .before .before .pre in
-    let start = entered _ _ _ (given .0) (c .before .before .before .before .before .before .before .before .before .before .before .before .before .before .before .before .before .args .m) _ _ _ _ (given .1 .1 .1 .0) in
-    (given .0, (given .1 .0, (given .1 .1 .0, (record { values = _; sound = (one-done _ _ _ (given .0) _ _ _ _ _ _ _ _ _ _ start (given .1 .1 .1 .1 .1 .1) (given .1 .1 .1 .1 .0) _ _ _ _ (c .before .before .before .before .before .before .before .before .before .before .carry .kept .1 .1 .0) (c .before .before .before .before .before .before .before .before .before .before .carry .ensures) (c .before .before .before .before .if1 .left)) .sound }, c .before .before .if2 .left))))
-
-same-length-7 : tie.Need-same-length-7
-same-length-7 c = search needs
-
-same-length-8 : tie.Need-same-length-8
-same-length-8 c = search needs
-
-same-length-9 : tie.Need-same-length-9
-same-length-9 c = search needs
-
-returns-3 : tie.Need-returns-3
-returns-3 c =
-    let given = c .before .before .before .before .before .before .before .before .before .before .before .before .before .before .before .before .before .before .before .before .before .pre in
-    let start = entered _ _ _ (given .0) (c .before .before .before .before .before .before .before .before .before .before .before .before .before .before .before .before .before .before .before .before .before .args .m) _ _ _ _ (given .1 .1 .1 .0) in
-    let done = one-done _ _ _ (given .0) _ _ _ _ _ _ _ _ _ _ start (given .1 .1 .1 .1 .1 .1) (given .1 .1 .1 .1 .0) _ _ _ _ (c .before .before .before .before .before .before .before .before .before .before .before .before .before .before .carry .kept .1 .1 .0) (c .before .before .before .before .before .before .before .before .before .before .before .before .before .before .carry .ensures) (c .before .before .before .before .before .before .before .before .if1 .left) in
+    let given = c .before .before .before .before .before .before .before .before .before .before .before .before .before .before .before .before .before .before .before .pre in
+    let start = entered _ _ _ (given .0) (c .before .before .before .before .before .before .before .before .before .before .before .before .before .before .before .before .before .before .before .args .m) _ _ _ _ (given .1 .1 .1 .0) in
+    let done = one-done _ _ _ (given .0) _ _ _ _ _ _ _ _ _ _ start (given .1 .1 .1 .1 .1 .1) (given .1 .1 .1 .1 .0) _ _ _ _ (c .before .before .before .before .before .before .before .before .before .before .before .before .carry .kept .1 .1 .0) (c .before .before .before .before .before .before .before .before .before .before .before .before .carry .ensures) (c .before .before .before .before .before .before .if1 .left) in
     let more = c .before .before .before .turns .ensures .under _ (done .sound) in
     record {
       under = onward-from _ _ _ (given .0) _ _ _ _ _ _ _ _ _ _ done _ _ _ _ _ more;
@@ -88,14 +66,9 @@ onward-spec =
     same-length-2
     same-length-3
     returns
-    sub-t19
+    sub-turns
+    turns-requires
     same-length-4
     same-length-5
     same-length-6
-    returns-2
-    sub-turns
-    turns-requires
-    same-length-7
-    same-length-8
-    same-length-9
-    returns-3)
+    returns-2)

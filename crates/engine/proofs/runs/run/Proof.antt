@@ -2,7 +2,7 @@
 use mathlib.Core.Path.{refl, _∙_}
 use mathlib.Core.Logic.{inl, inr}
 use native.Mathlib.Omega.{arith}
-use Rattle.engine.proofs.Course.{Going, ahead, begun, entered, falls, lasts, onward-from, over-stopped}
+use Rattle.engine.proofs.Course.{Going, ahead, entered, falls, lasts, onward-from}
 use borrow.Author.Needs.{needs}
 use Rattle.engine.proofs.runs.run.Statement.{statement}
 use Rattle.engine.proofs.runs.run.Tie as tie
@@ -15,23 +15,18 @@ abbrev μ-loop : tie.MeasureT-loop
 μ-loop code words store₀ tables₀ values₀ size n k m registers₀ left₀ store tables values registers left =
     ahead left (registers .state)
 
-returns : tie.Need-returns Inv-loop μ-loop
-returns c =
-    let ends = over-stopped _ _ _ _ _ _ (begun _ _ _ _) (c .if1 .taken) in
-    record { is = ends .0; counted = ends .1 }
-
 turns-requires : tie.Need-turns-requires Inv-loop μ-loop
-turns-requires c κs = let given = c .before .before .before .before .before .before .before .pre in (given .0, (given .1 .0, (given .1 .1 .0, (record { values = _; sound = given .1 .1 .1 }, c .before .before .if1 .left))))
+turns-requires c κs = let given = c .before .before .before .before .before .pre in (given .0, (given .1 .0, (given .1 .1 .0, record { values = _; sound = given .1 .1 .1 })))
 
 loop-holds : tie.Need-loop-holds Inv-loop μ-loop
 loop-holds c =
-    let given = c .before .before .before .before .before .before .before .before .before .before .before .before .pre in
+    let given = c .before .before .before .before .before .before .before .before .before .before .pre in
     let first = c .before .before .before .before .turns .ensures .under _ (given .1 .1 .1) in
     record { under = entered _ _ _ (given .0) _ _ _ _ _ (first .sound); ends = c .before .before .before .before .turns .ensures .ends; store-long = refl; tables-long = refl; values-long = refl }
 
-sub-t21 : tie.Need-sub-t21 Inv-loop μ-loop
-sub-t21 c =
-    let given = c .before .before .before .before .before .before .before .before .before .before .before .before .before .before .before .before .pre in
+sub-t20 : tie.Need-sub-t20 Inv-loop μ-loop
+sub-t20 c =
+    let given = c .before .before .before .before .before .before .before .before .before .before .before .before .before .before .pre in
     let first = c .before .before .before .before .before .before .before .before .turns .ensures .under _ (given .1 .1 .1) in
     omega (arith, first .within, c .before .before .before .loop .inv .under .within)
 
@@ -44,24 +39,24 @@ same-length-2 c = c .before .before .before .loop .inv .tables-long ∙ c .befor
 same-length-3 : tie.Need-same-length-3 Inv-loop μ-loop
 same-length-3 c = c .before .before .before .loop .inv .values-long
 
-returns-2 : tie.Need-returns-2 Inv-loop μ-loop
-returns-2 c =
-    let given = c .before .before .before .before .before .before .before .before .before .before .before .before .before .before .before .before .pre in
+returns : tie.Need-returns Inv-loop μ-loop
+returns c =
+    let given = c .before .before .before .before .before .before .before .before .before .before .before .before .before .before .pre in
     let first = c .before .before .before .before .before .before .before .before .turns .ensures .under _ (given .1 .1 .1) in
     let whole = onward-from _ _ _ (given .0) _ _ _ _ _ _ _ _ _ _ first _ _ _ _ _ (c .before .before .before .loop .inv .under) in
-    let ends = lasts _ _ _ (given .0) _ _ _ _ _ _ _ _ _ _ whole (inr (c .if2 .taken)) in
+    let ends = lasts _ _ _ (given .0) _ _ _ _ _ _ _ _ _ _ whole (inr (c .if1 .taken)) in
     record { is = ends .0; counted = ends .1 }
 
 onward-requires : tie.Need-onward-requires Inv-loop μ-loop
 onward-requires c κs =
-    let given = c .before .before .before .before .before .before .before .before .before .before .before .before .before .before .before .before .before .before .before .pre in (given .0, (given .1 .0, (given .1 .1 .0, (c .before .before .before .before .before .before .loop .inv .under .sound, (c .before .before .before .if2 .left, (c .before .before .before .before .before .before .loop .inv .ends (omega (arith, c .before .before .before .before .before .loop-test .taken)) (c .before .before .before .if2 .left), omega (arith, c .before .before .before .before .before .loop-test .taken)))))))
+    let given = c .before .before .before .before .before .before .before .before .before .before .before .before .before .before .before .before .before .pre in (given .0, (given .1 .0, (given .1 .1 .0, (c .before .before .before .before .before .before .loop .inv .under .sound, (c .before .before .before .if1 .left, (c .before .before .before .before .before .before .loop .inv .ends (omega (arith, c .before .before .before .before .before .loop-test .taken)) (c .before .before .before .if1 .left), omega (arith, c .before .before .before .before .before .loop-test .taken)))))))
 
 loop-less : tie.Need-loop-less Inv-loop μ-loop
-loop-less c = falls _ _ _ _ (c .before .before .before .before .before .onward .ensures .under .within) (c .before .before .before .before .before .before .before .before .before .if2 .left) (c .before .before .before .before .before .onward .ensures .went)
+loop-less c = falls _ _ _ _ (c .before .before .before .before .before .onward .ensures .under .within) (c .before .before .before .before .before .before .before .before .before .if1 .left) (c .before .before .before .before .before .onward .ensures .went)
 
 loop-again : tie.Need-loop-again Inv-loop μ-loop
 loop-again c =
-    let given = c .before .before .before .before .before .before .before .before .before .before .before .before .before .before .before .before .before .before .before .before .before .before .before .before .before .pre in
+    let given = c .before .before .before .before .before .before .before .before .before .before .before .before .before .before .before .before .before .before .before .before .before .before .before .pre in
     record {
       under = onward-from _ _ _ (given .0) _ _ _ _ _ _ _ _ _ _ (c .before .before .before .before .before .before .before .before .before .before .before .before .loop .inv .under) _ _ _ _ _ (c .before .before .before .before .before .onward .ensures .under);
       ends = c .before .before .before .before .before .onward .ensures .ends;
@@ -70,9 +65,9 @@ loop-again c =
       values-long = c .before .before .before .before .before .onward .kept .1 .1 .1 .1 .0 ∙ c .before .before .before .before .before .before .before .before .before .before .before .before .loop .inv .values-long;
     }
 
-sub-t28 : tie.Need-sub-t28 Inv-loop μ-loop
-sub-t28 c =
-    let given = c .before .before .before .before .before .before .before .before .before .before .before .before .before .before .pre in
+sub-t27 : tie.Need-sub-t27 Inv-loop μ-loop
+sub-t27 c =
+    let given = c .before .before .before .before .before .before .before .before .before .before .before .before .pre in
     let first = c .before .before .before .before .before .before .turns .ensures .under _ (given .1 .1 .1) in
     omega (arith, first .within, c .before .loop .inv .under .within)
 
@@ -85,9 +80,9 @@ same-length-5 c = c .before .loop .inv .tables-long ∙ c .before .before .befor
 same-length-6 : tie.Need-same-length-6 Inv-loop μ-loop
 same-length-6 c = c .before .loop .inv .values-long
 
-returns-3 : tie.Need-returns-3 Inv-loop μ-loop
-returns-3 c =
-    let given = c .before .before .before .before .before .before .before .before .before .before .before .before .before .before .pre in
+returns-2 : tie.Need-returns-2 Inv-loop μ-loop
+returns-2 c =
+    let given = c .before .before .before .before .before .before .before .before .before .before .before .before .pre in
     let first = c .before .before .before .before .before .before .turns .ensures .under _ (given .1 .1 .1) in
     let whole = onward-from _ _ _ (given .0) _ _ _ _ _ _ _ _ _ _ first _ _ _ _ _ (c .before .loop .inv .under) in
     let ends = lasts _ _ _ (given .0) _ _ _ _ _ _ _ _ _ _ whole (inl (omega (arith, c .loop-test .left))) in
@@ -99,19 +94,18 @@ run-spec =
     (tie.spec
     Inv-loop
     μ-loop
-    returns
     turns-requires
     loop-holds
-    sub-t21
+    sub-t20
     same-length
     same-length-2
     same-length-3
-    returns-2
+    returns
     onward-requires
     loop-less
     loop-again
-    sub-t28
+    sub-t27
     same-length-4
     same-length-5
     same-length-6
-    returns-3)
+    returns-2)
