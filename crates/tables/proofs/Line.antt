@@ -8,7 +8,7 @@ use lib.Dec.{eqb}
 use lib.ListN.{length, getD, set, take, drop, drop-of-length-le, length-append, length-drop, length-set, take-append-drop, List·getD-append}
 use lib.Seq.{drop-append-le, drop-at, drop-cons, drop-set-lt, getD-drop, length-take-le, take-append-le, take-set-lt}
 use borrow.Author.Tests.{eq-eqb, ne-eqb}
-use Rattle.machine.proofs.Lists.{count-cons, count-nil, keep-in, keep-nil, keep-out, length-to-end, less-or-not, one-if-is, one-if-other, one-if-same}
+use Rattle.machine.proofs.Lists.{count-cons, count-nil, keep-in, keep-nil, keep-out, length-to-end, less-or-not, one-if-is, one-if-other, one-if-same, same-or-not}
 use Rattle.machine.proofs.Queues.{first-in-line, first-nobody, first-waiter, sent-count}
 use Rattle.machine.specs.Lists.{count, keep, toEnd}
 use Rattle.machine.specs.Tables.{first, firstOf, isAt, queue, sent, tablesOf}
@@ -97,6 +97,41 @@ module _ (was : List ℕ) (t : ℕ) (l : List ℕ) (carried i j : ℕ) (w : Walk
   -- at t the walk is over
   pub walk-met : (from : ℕ) → from ≤ j → count t (drop from was) ≡ 1 → getD l j 0 ≡ t → set l j carried ≡ endMoved was from t
   walk-met from low once here = put ∙ sym (moved-at t was from j low h (sym met ∙ here) once)
+
+-- a walk that stops with t in hand: it goes on with what was walked so far, or is over
+pub record Walking (was : List ℕ) (from t : ℕ) (l : List ℕ) (carried i : ℕ) : Type 0 where
+  pub long : length l ≡ length was
+  pub low : from ≤ i
+  pub high : i < length was
+  pub once : count t (drop from was) ≡ 1
+  pub on : carried ≢ t → Walked was t l carried i
+  pub over : carried ≡ t → l ≡ endMoved was from t
+
+module _ (was : List ℕ) (from t : ℕ) where
+  -- where t was not met yet, it is still ahead
+  pub ahead : (i : ℕ) → from ≤ i → count t (drop from was) ≡ 1 → count t (drop i was) ≡ 0 → from < i
+  ahead i low once none = same-or-not from i (λ e. absurd (omega (arith, once, rw (← e) at none))) (λ e. omega (arith, low, e))
+
+  -- a place further
+  step : (l : List ℕ) (carried i j : ℕ) → length l ≡ length was → from ≤ j → count t (drop from was) ≡ 1 → Walked was t l carried i → i ≡ suc j → j < length was →
+      Walking was from t (set l j carried) (getD l j 0) j
+  step l carried i j long low once w next h =
+      record {
+        long = length-set l j carried ∙ long;
+        low = low;
+        high = h;
+        once = once;
+        on = λ away. walk-on was t l carried i j w next h away;
+        over = λ here. walk-met was t l carried i j w next h from low once here;
+      }
+
+  pub walking-start : (j : ℕ) → length was ≡ suc j → from ≤ j → count t (drop from was) ≡ 1 → Walking was from t (set was j t) (getD was j 0) j
+  walking-start j next low once = step was t (length was) j refl low once (walk-start was t) next (omega (arith, next))
+
+  pub walking-on : (l : List ℕ) (carried i j : ℕ) → Walking was from t l carried i → carried ≢ t → i ≡ suc j → Walking was from t (set l j carried) (getD l j 0) j
+  walking-on l carried i j w away next =
+      let below = ahead i (w .low) (w .once) (w .on away .passed) in
+      step l carried i j (w .long) (omega (arith, below, next)) (w .once) (w .on away) next (omega (arith, w .high, next))
 
 pub length-moved : (l : List ℕ) (from t : ℕ) → length (endMoved l from t) ≡ length l
 length-moved l from t =

@@ -12,21 +12,19 @@ use machine::First;
 use machine::Thread;
 
 // Moves the one `t` from `from` on to the end of the slice. It walks back from the end, so that what stands before
-// `t` is not read.
+// `t` is not read, and needs no bound, since `t` is there: `from` is only in the contract.
 fn to_end(tables: &mut [usize], from: usize, t: usize)
     requires { ⌜ from ≤ length (now tables) ⌝ }
     requires { ⌜ count t (drop from (now tables)) ≡ 1 ⌝ }
     ensures { λ _. ⌜ now (tables .exit) ≡ endMoved (now (tables .entry)) from t ⌝ }
 {
-    let mut carried = t;
-    let mut i = tables.len();
-    while from < i {
+    let mut i = tables.len() - 1;
+    let mut carried = tables[i];
+    tables[i] = t;
+    while carried != t {
         i -= 1;
         let x = tables[i];
         tables[i] = carried;
-        if x == t {
-            return;
-        }
         carried = x;
     }
 }
