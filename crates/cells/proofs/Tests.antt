@@ -14,11 +14,7 @@ use borrow.Author.Tests.{lt-ltb, le-ltb, ltb-true}
 use Rattle.cells.specs.Contract.{after, indexOf}
 use Rattle.cells.specs.declared.index.Index.{Index}
 use Rattle.cells.specs.declared.index.Index.the-variants.{In, Out}
-use Rattle.machine.specs.Execution.{Outcome, done, exec, fault, needs, pushed, rooms, within}
-use Rattle.machine.specs.Instructions.{Instruction, loadc}
-use Rattle.machine.specs.State.{State}
-use Rattle.machine.specs.Step.{entered, onward}
-use Rattle.machine.proofs.Equations.{loadc-is}
+use Rattle.machine.specs.Execution.{Outcome, fault, needs, rooms, within}
 
 pub needs-less : (k cells : ℕ) (o : Outcome) → cells < k → needs k cells o ≡ fault 21
 unfolding needs
@@ -85,19 +81,6 @@ below-limit x limit {a} f h k = in-below x limit a (of-cell limit {x = x} f refl
 
 pub of-frame : (fp limit : ℕ) {k : ℤ} {r : Index} → SFits w32 k → r ≡ indexOf (pos fp +ℤ toZ w32 (ofZ w32 k)) limit → indexOf (pos fp +ℤ k) limit ≡ r
 of-frame fp limit f h = sym (rw (toZ-ofZ f) at h)
-
--- instructions of one outcome leave one state
-alike : (size n : ℕ) (s : State) (i j : Instruction) → exec size n (onward s) i ≡ exec size n (onward s) j → after size n s i ≡ after size n s j
-alike size n s i j e = by-outcome (exec size n (onward s) i) ∙ ap (λ (o : Outcome). entered size s (onward s) j o .state) e
-  where
-    by-outcome : (o : Outcome) → entered size s (onward s) i o .state ≡ entered size s (onward s) j o .state
-    by-outcome (done u) = refl
-    by-outcome (fault k) = refl
-
--- an instruction that pushes v does what `loadc` of v does, where v was read as x
-pub pushes : (size n : ℕ) (s : State) (i : Instruction) {x v : ℤ} {u : State} → mag x < 2 ^ 31 → x ≡ v → u ≡ after size n s (loadc (toZ w32 (ofZ w32 x))) → exec size n (onward s) i ≡ rooms 1 (s .regs .cells) (done (pushed size n (onward s) v)) → u ≡ after size n s i
-pushes size n s i {v} f e h o =
-    (rw (read-back f e) at h) ∙ alike size n s (loadc v) i (loadc-is size n (onward s) v ∙ sym o)
 
 -- a value that is not below a number is a number
 pub not-below : (v : ℤ) (m : ℕ) → ltZ v (pos m) ≡ false → T (nonNeg v)

@@ -2,7 +2,7 @@
 ghost use mathlib.Core.Path.{_≡_};
 ghost use Prim.Native.Nat.{_≤_};
 ghost use Rattle.machine.specs.Context.{inContext};
-ghost use Rattle.machine.specs.Registers.{advanced, stopped, switched, withCells, withFp, withFree, withMade, withPc, withSemaphores, withState};
+ghost use Rattle.machine.specs.Registers.{advanced, stopped, switched, withCells, withFree, withMade, withSemaphores, withState};
 use crate::context::Context;
 use crate::numbers::Thread;
 use crate::states;
@@ -69,25 +69,11 @@ impl Registers {
         self
     }
 
-    // With another PC, number of cells, FP, next free cell.
-    pub fn with_pc(mut self, pc: usize) -> Self
-        ensures { λ r. ⌜ r ≡ withPc self pc ⌝ }
-    {
-        self.pc = pc;
-        self
-    }
-
+    // With another number of cells, next free cell.
     pub fn with_cells(mut self, cells: usize) -> Self
         ensures { λ r. ⌜ r ≡ withCells self cells ⌝ }
     {
         self.cells = cells;
-        self
-    }
-
-    pub fn with_fp(mut self, fp: usize) -> Self
-        ensures { λ r. ⌜ r ≡ withFp self fp ⌝ }
-    {
-        self.fp = fp;
         self
     }
 
