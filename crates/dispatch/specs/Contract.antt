@@ -1,5 +1,5 @@
 -- What an instruction asks.
-use Prim.Native.Nat.{ℕ, _*_, _<_}
+use Prim.Native.Nat.{ℕ, _*_, _<_, _≤_}
 use mathlib.Core.List.{List}
 use mathlib.Core.Logic.{_≢_}
 use mathlib.Core.Path.{_≡_}
@@ -22,3 +22,9 @@ pub record Working (size : ℕ) (r : Registers) (cells : ℕ) (tables : List ℕ
 -- the opcodes of all instructions but yield, lock and unlock
 abbrev pub Others : ℕ → Type 0
 Others opcode = (opcode ≢ 27) × ((opcode ≢ 32) × (opcode ≢ 33))
+
+-- the opcodes from loadc to call but alloc: the instructions that are tried in a context
+pub record Own (opcode : ℕ) : Type 0 where
+  pub least : 1 ≤ opcode
+  pub most : opcode ≤ 23
+  pub other : opcode ≢ 6

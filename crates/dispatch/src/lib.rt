@@ -1,11 +1,14 @@
 // The dispatcher: the instruction of each opcode but those that the engine takes beside its loop, yield, lock and
 // unlock. Inner: the engine calls it on a running machine.
+mod own;
+
 ghost use Prim.Native.Nat.{_≤_};
 ghost use lib.ListN.{length};
 ghost use Rattle.cells.specs.Contract.{ChangesIn};
 ghost use Rattle.dispatch.specs.Contract.{Others, Working};
 ghost use Rattle.local.specs.Contract.{Permitted};
 ghost use Rattle.machine.specs.Instructions.{instructionOf};
+use crate::own::attempt;
 use cells::past;
 use cells::settled;
 use local::natural;
@@ -29,33 +32,9 @@ pub fn execute(
         ⌜ ChangesIn size n (instructionOf opcode operand) (now (store .entry)) (now (tables .entry))
         (now (values .entry)) r (now (store .exit)) (now (tables .exit)) (now (values .exit)) q ⌝ }
 {
-    let t = r.thread;
-    let c = past(r);
     match opcode {
         0 => control::halt(r),
-        1 => settled(r, stack::loadc(store, size, t, c, operand)),
-        2 => settled(r, shared::load(store, size, t, c)),
-        3 => settled(r, shared::store_cell(store, size, t, c)),
-        4 => settled(r, stack::loadr(store, size, t, c, operand)),
-        5 => settled(r, stack::storer(store, size, t, c, operand)),
         6 => stack::alloc(store, size, r, natural(operand)),
-        7 => settled(r, stack::pop(c)),
-        8 => settled(r, stack::dup(store, size, t, c)),
-        9 => settled(r, operators::binary(store, size, t, c, 9)),
-        10 => settled(r, operators::binary(store, size, t, c, 10)),
-        11 => settled(r, operators::binary(store, size, t, c, 11)),
-        12 => settled(r, operators::binary(store, size, t, c, 12)),
-        13 => settled(r, operators::binary(store, size, t, c, 13)),
-        14 => settled(r, operators::neg(store, size, t, c)),
-        15 => settled(r, operators::compare(store, size, t, c, 15)),
-        16 => settled(r, operators::compare(store, size, t, c, 16)),
-        17 => settled(r, operators::compare(store, size, t, c, 17)),
-        18 => settled(r, operators::compare(store, size, t, c, 18)),
-        19 => settled(r, operators::not(store, size, t, c)),
-        20 => settled(r, control::jump(c, natural(operand))),
-        21 => settled(r, control::jumpz(store, size, t, c, natural(operand), n)),
-        22 => settled(r, stack::mark(store, size, t, c)),
-        23 => settled(r, control::call(store, size, t, c, n)),
         24 => endings::return_from(store, tables, values, size, r, n),
         25 => shared::fresh(store, size, r),
         26 => threads::create(store, tables, size, r, n),
@@ -70,7 +49,10 @@ pub fn execute(
         38 => semaphores::newsema(store, values, size, r),
         39 => semaphores::up(store, tables, values, size, r),
         40 => semaphores::down(store, tables, values, size, r),
-        // No card that was accepted has another opcode.
-        _ => control::halt(r),
+        // From loadc to call.
+        _ => settled(
+            r,
+            attempt(store, size, r.thread, n, past(r), opcode, operand),
+        ),
     }
 }
