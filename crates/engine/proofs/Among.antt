@@ -35,18 +35,18 @@ pub record Among (size : ℕ) (code : List ℕ) (r : Registers) (m : ℕ) (store
   pub store-long : length store ≡ length store₀
   pub tables-long : length tables ≡ length tables₀
 
-module _ (size : ℕ) (code : List ℕ) (n : ℕ) (card : Carded code n) (r : Registers) (m : ℕ) (store₀ : List ℤ) (tables₀ : List ℕ) (t₀ : ℕ) (c₀ : Context) where
+module _ {size : ℕ} {code : List ℕ} {n : ℕ} (card : Carded code n) {r : Registers} {m : ℕ} {store₀ : List ℤ} {tables₀ : List ℕ} {t₀ : ℕ} {c₀ : Context} where
   pub among : Seated size store₀ tables₀ (inContext r t₀ c₀) → Among size code r m store₀ tables₀ t₀ c₀ store₀ tables₀ t₀ c₀ m 0
   among seat =
       record {
         seat = seat;
-        under = λ values h. entered size code n card m store₀ tables₀ values (inContext r t₀ c₀) h;
+        under = λ values h. entered card h;
         idle = tt;
         store-long = refl;
         tables-long = refl;
       }
 
-  module _ (store : List ℤ) (tables : List ℕ) (t : ℕ) (c : Context) (left skip : ℕ) (a : Among size code r m store₀ tables₀ t₀ c₀ store tables t c left skip) where
+  module _ {store : List ℤ} {tables : List ℕ} {t : ℕ} {c : Context} {left skip : ℕ} (a : Among size code r m store₀ tables₀ t₀ c₀ store tables t c left skip) where
     pub somewhere : Under size code m store₀ tables₀ (a .seat .values) (inContext r t₀ c₀) store tables (a .seat .values) (inContext r t c) left
     somewhere = a .under (a .seat .values) (a .seat .sound)
 
@@ -75,13 +75,13 @@ module _ (size : ℕ) (code : List ℕ) (n : ℕ) (card : Carded code n) (r : Re
         pub turn-faults : q .state ≡ faulted → (values : List ℤ) → Sound size (boxed store₀ tables₀ values (inContext r t₀ c₀)) →
             Under size code m store₀ tables₀ values (inContext r t₀ c₀) store tables′ values q left
         turn-faults wrong values h =
-            one-fault size code n card m store₀ tables₀ values (inContext r t₀ c₀) store tables values (inContext r t c) left (a .under values h) some runs store tables′ values q same (is values) wrong
+            one-fault card (a .under values h) some runs same (is values) wrong
 
         -- .. or it was carried out, ..
         pub turn-done : q .state ≢ faulted → (values : List ℤ) → Sound size (boxed store₀ tables₀ values (inContext r t₀ c₀)) →
             Under size code m store₀ tables₀ values (inContext r t₀ c₀) store tables′ values q (left - 1)
         turn-done fine values h =
-            one-done size code n card m store₀ tables₀ values (inContext r t₀ c₀) store tables values (inContext r t c) left (a .under values h) some runs store tables′ values q same (is values) fine
+            one-done card (a .under values h) some runs same (is values) fine
 
         module _ (on : q .state ≡ running) where
           -- .. and the machine runs on: some thread, in its context
@@ -99,14 +99,14 @@ module _ (size : ℕ) (code : List ℕ) (n : ℕ) (card : Carded code n) (r : Re
           houses = record { tables = tables′; values = a .seat .values; r = r; runs = runs; sound = next (a .seat .values) (a .seat .sound) .sound }
 
           -- with a stretch of that thread behind it
-          pub among-more : (words : List ℕ) (k : ℕ) → Unpacked code n words k → (store′ : List ℤ) (c′ : Context) (rest skip′ : ℕ) → length store′ ≡ length store → Idle (tablesOf size tables) skip′ →
+          pub among-more : {words : List ℕ} {k : ℕ} {store′ : List ℤ} {c′ : Context} {rest skip′ : ℕ} → Unpacked code n words k → length store′ ≡ length store → Idle (tablesOf size tables) skip′ →
               Inside size words k (left - 1) store (q .thread) (contextOf q) store′ c′ rest →
               Among size code r m store₀ tables₀ t₀ c₀ store′ tables′ (q .thread) c′ rest skip′
-          among-more words k unpacked store′ c′ rest skip′ long idle inside =
+          among-more {skip′} unpacked long idle inside =
               record {
                 seat = a .seat;
                 under = λ values h.
-                    onward-from size code n card m store₀ tables₀ values (inContext r t₀ c₀) store tables′ values (inContext r (q .thread) (contextOf q)) (left - 1) (next values h) store′ tables′ values (inContext r (q .thread) c′) rest (inside code n card unpacked tables′ values r runs (next values h .sound));
+                    onward-from card (next values h) (inside code n card unpacked tables′ values r runs (next values h .sound));
                 idle =
                     rw (ap (λ (s : State). s .tables) (does (a .seat .values)))
                     (stays-idle size n skip′ _ (stateAt size store tables (a .seat .values) (inContext r t c)) turning live idle);
@@ -115,10 +115,9 @@ module _ (size : ℕ) (code : List ℕ) (n : ℕ) (card : Carded code n) (r : Re
               }
 
 -- turns that began with a stretch
-pub joined : (size : ℕ) (code : List ℕ) (n : ℕ) (card : Carded code n) (words : List ℕ) (k : ℕ) → Unpacked code n words k → (r : Registers) → r .state ≡ running → (m : ℕ) (store : List ℤ) (tables : List ℕ) (store₀ : List ℤ) (c₀ : Context) (left₀ : ℕ) →
-    Inside size words k m store (r .thread) (contextOf r) store₀ c₀ left₀ → (store′ : List ℤ) (tables′ : List ℕ) (q : Registers) (rest : ℕ) →
+pub joined : {size : ℕ} {code : List ℕ} {n : ℕ} (card : Carded code n) {words : List ℕ} {k : ℕ} → Unpacked code n words k → {r : Registers} → r .state ≡ running → {m : ℕ} {store : List ℤ} {tables : List ℕ} {store₀ : List ℤ} {c₀ : Context} {left₀ : ℕ} →
+    Inside size words k m store (r .thread) (contextOf r) store₀ c₀ left₀ → {store′ : List ℤ} {tables′ : List ℕ} {q : Registers} {rest : ℕ} →
     ((values : List ℤ) → Sound size (boxed store₀ tables values (inContext r (r .thread) c₀)) → Under size code left₀ store₀ tables values (inContext r (r .thread) c₀) store′ tables′ values q rest) →
     (values : List ℤ) → Sound size (boxed store tables values r) → Under size code m store tables values r store′ tables′ values q rest
-joined size code n card words k unpacked r runs m store tables store₀ c₀ left₀ inside store′ tables′ q rest more values h =
-    let u = inside code n card unpacked tables values r runs h in
-    onward-from size code n card m store tables values r store₀ tables values (inContext r (r .thread) c₀) left₀ u store′ tables′ values q rest (more values (u .sound))
+joined {code} {n} card unpacked {r} runs {tables} inside more values h =
+    let u = inside code n card unpacked tables values r runs h in onward-from card u (more values (u .sound))

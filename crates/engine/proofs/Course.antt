@@ -9,8 +9,7 @@ use lib.Dec.{eqb}
 use lib.IntN.{ℤ}
 use lib.ListN.{length, length-append}
 use borrow.Author.Tests.{eq-eqb, ne-eqb}
-use Rattle.card.specs.Code.{instructionAt, wordsOf}
-use Rattle.dispatch.specs.Contract.{Others}
+use Rattle.card.specs.Code.{wordsOf}
 use Rattle.engine.specs.Contract.{Carded, Carries, Course, Under, stateAt}
 use Rattle.engine.proofs.Working.{words-of}
 use Rattle.machine.specs.Calls.{boxed}
@@ -119,18 +118,18 @@ module _ (size : ℕ) (code : List ℕ) (n : ℕ) (card : Carded code n) (store 
   tells-done store′ tables′ values′ q is e = rw (ne-eqb _ _ e) at (tells store′ tables′ values′ q is)
 
 -- a run under way in lent slices
-module _ (size : ℕ) (code : List ℕ) (n : ℕ) (card : Carded code n) (m : ℕ) (store₀ : List ℤ) (tables₀ : List ℕ) (values₀ : List ℤ) (r₀ : Registers) where
+module _ {size : ℕ} {code : List ℕ} {n : ℕ} (card : Carded code n) {m : ℕ} {store₀ : List ℤ} {tables₀ : List ℕ} {values₀ : List ℤ} {r₀ : Registers} where
   -- it begins
   pub entered : Sound size (boxed store₀ tables₀ values₀ r₀) → Under size code m store₀ tables₀ values₀ r₀ store₀ tables₀ values₀ r₀ m
   entered h =
       let none : m - m ≡ 0 = omega arith in
       record { within = omega arith; sound = h; course = rw none (begun size (wordsOf code) (stateAt size store₀ tables₀ values₀ r₀) m) }
 
-  module _ (store : List ℤ) (tables : List ℕ) (values : List ℤ) (r : Registers) (left : ℕ) (u : Under size code m store₀ tables₀ values₀ r₀ store tables values r left) where
+  module _ {store : List ℤ} {tables : List ℕ} {values : List ℤ} {r : Registers} {left : ℕ} (u : Under size code m store₀ tables₀ values₀ r₀ store tables values r left) where
     -- it has come further
-    pub onward-from : (store′ : List ℤ) (tables′ : List ℕ) (values′ : List ℤ) (q : Registers) (rest : ℕ) → Under size code left store tables values r store′ tables′ values′ q rest →
+    pub onward-from : {store′ : List ℤ} {tables′ : List ℕ} {values′ : List ℤ} {q : Registers} {rest : ℕ} → Under size code left store tables values r store′ tables′ values′ q rest →
         Under size code m store₀ tables₀ values₀ r₀ store′ tables′ values′ q rest
-    onward-from store′ tables′ values′ q rest v =
+    onward-from {store′} {tables′} {values′} {q} {rest} v =
         let budget : left ≡ m - (m - left) = omega (arith, u .within) in
         let so-far : m - left + (left - rest) ≡ m - rest = omega (arith, u .within, v .within) in
         let more : Course size (wordsOf code) (stateAt size store tables values r) (m - (m - left)) (stateAt size store′ tables′ values′ q) (left - rest) = rw (← budget) (v .course) in
@@ -147,7 +146,7 @@ module _ (size : ℕ) (code : List ℕ) (n : ℕ) (card : Carded code n) (m : �
     lasts (inl none) = over-done size (wordsOf code) (stateAt size store₀ tables₀ values₀ r₀) m _ _ (u .course) (omega (arith, none))
     lasts (inr stops) = over-stopped size (wordsOf code) (stateAt size store₀ tables₀ values₀ r₀) m _ _ (u .course) stops
 
-    module _ (some : 1 ≤ left) (runs : r .state ≡ running) (store′ : List ℤ) (tables′ : List ℕ) (values′ : List ℤ) (q : Registers) (same : length tables′ ≡ length tables) (is : Carries size code store tables values r store′ tables′ values′ q) where
+    module _ (some : 1 ≤ left) (runs : r .state ≡ running) {store′ : List ℤ} {tables′ : List ℕ} {values′ : List ℤ} {q : Registers} (same : length tables′ ≡ length tables) (is : Carries size code store tables values r store′ tables′ values′ q) where
       sound : Sound size (boxed store′ tables′ values′ q)
       sound = stays-sound size code n card store tables values r (u .sound) runs store′ tables′ values′ q same is
 
@@ -172,10 +171,9 @@ module _ (size : ℕ) (code : List ℕ) (n : ℕ) (card : Carded code n) (m : �
             course = faulted-at size (wordsOf code) (stateAt size store₀ tables₀ values₀ r₀) m _ _ _ (u .course) (omega (arith, u .within)) runs is none (λ e. omega (arith, wrong, e));
           }
 
--- a run between turns, in lent slices that are as long as they were: what is next is one of the others
-pub record Going (size : ℕ) (code : List ℕ) (n m : ℕ) (store₀ : List ℤ) (tables₀ : List ℕ) (values₀ : List ℤ) (r₀ : Registers) (store : List ℤ) (tables : List ℕ) (values : List ℤ) (r : Registers) (left : ℕ) : Type 0 where
+-- a run under way, in lent slices that are as long as they were
+pub record Going (size : ℕ) (code : List ℕ) (m : ℕ) (store₀ : List ℤ) (tables₀ : List ℕ) (values₀ : List ℤ) (r₀ : Registers) (store : List ℤ) (tables : List ℕ) (values : List ℤ) (r : Registers) (left : ℕ) : Type 0 where
   pub under : Under size code m store₀ tables₀ values₀ r₀ store tables values r left
-  pub ends : 1 ≤ left → r .state ≡ running → r .pc < n → Others (instructionAt code (r .pc) .opcode)
   pub store-long : length store ≡ length store₀
   pub tables-long : length tables ≡ length tables₀
   pub values-long : length values ≡ length values₀

@@ -23,11 +23,11 @@ use Rattle.machine.specs.declared.context.Context.{Context}
 abbrev pub past : Context → Context
 past c = record { pc = c .pc + 1; cells = c .cells; fp = c .fp }
 
-module _ (size : ℕ) (words : List ℕ) (k m : ℕ) (store₀ : List ℤ) (t : ℕ) (c₀ : Context) where
+module _ {size : ℕ} {words : List ℕ} {k m : ℕ} {store₀ : List ℤ} {t : ℕ} {c₀ : Context} where
   pub enter : Inside size words k m store₀ t c₀ store₀ c₀ m
-  enter code n card unpacked tables values r runs h = entered size code n card m store₀ tables values (inContext r t c₀) h
+  enter code n card unpacked tables values r runs h = entered card h
 
-  module _ (store : List ℤ) (c : Context) (left : ℕ) (inside : Inside size words k m store₀ t c₀ store c left) (load : Loaded words k) (house : Housed size store₀ t c₀) where
+  module _ {store : List ℤ} {c : Context} {left : ℕ} (inside : Inside size words k m store₀ t c₀ store c left) (load : Loaded words k) (house : Housed size store₀ t c₀) where
     -- somewhere the run is under way
     pub somewhere : Under size (load .code) m store₀ (house .tables) (house .values) (inContext (house .r) t c₀) store (house .tables) (house .values) (inContext (house .r) t c) left
     somewhere = inside (load .code) (load .n) (load .card) (load .unpacked) (house .tables) (house .values) (house .r) (house .runs) (house .sound)
@@ -43,7 +43,7 @@ module _ (size : ℕ) (words : List ℕ) (k m : ℕ) (store₀ : List ℤ) (t : 
         let all : k ≡ load .n = load .unpacked .all (omega arith) in
         rw (load .unpacked .word (c .pc) below, all) (permitted (load .code) (load .n) (load .card) (c .pc) (omega (arith, all)) .0)
 
-  module _ (store : List ℤ) (c : Context) (left : ℕ) (inside : Inside size words k m store₀ t c₀ store c left) (below : c .pc < k) (store′ : List ℤ) (a : Attempt) (h : Ventures size k (getD words (c .pc) 0) store t (past c) store′ a) where
+  module _ {store : List ℤ} {c : Context} {left : ℕ} (inside : Inside size words k m store₀ t c₀ store c left) (below : c .pc < k) {store′ : List ℤ} {a : Attempt} (h : Ventures size k (getD words (c .pc) 0) store t (past c) store′ a) where
     -- the instruction was carried out
     pub one-more : 1 ≤ left → a .ok ≡ true → Inside size words k m store₀ t c₀ store′ (a .context) (left - 1)
     one-more some ok code n card unpacked tables values r runs start =
@@ -53,4 +53,4 @@ module _ (size : ℕ) (words : List ℕ) (k m : ℕ) (store₀ : List ℤ) (t : 
         let is : Carries size code store tables values (inContext r t c) store′ tables values (inContext r t (a .context)) =
         carries size n s _ _ (rw (unpacked .word (c .pc) below, all) at (h .is ok (tablesOf size tables) values r))
         ∙ at-pc code n card size s (omega (arith, all)) in
-        one-done size code n card m store₀ tables values (inContext r t c₀) store tables values (inContext r t c) left u some runs store′ tables values (inContext r t (a .context)) refl is (λ e. omega (arith, runs, e))
+        one-done card u some runs refl is (λ e. omega (arith, runs, e))

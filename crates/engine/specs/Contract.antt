@@ -112,12 +112,10 @@ pub record Turned (size : ℕ) (code : List ℕ) (n m : ℕ) (store : List ℤ) 
   pub ends : 1 ≤ p .left → p .registers .state ≡ running → p .registers .pc < n →
       Others (instructionAt code (p .registers .pc) .opcode)
 
--- one of the others and the turns after it: a run of m has come to this; and where it can go on, fewer are left
-pub record Onward (size : ℕ) (code : List ℕ) (n m : ℕ) (store : List ℤ) (tables : List ℕ) (values : List ℤ)
+-- turns and the instruction after them: a run of m has come to this; and where it can go on, fewer are left
+pub record Onward (size : ℕ) (code : List ℕ) (m : ℕ) (store : List ℤ) (tables : List ℕ) (values : List ℤ)
     (r : Registers) (store′ : List ℤ) (tables′ : List ℕ) (values′ : List ℤ) (p : Standing) : Type 0 where
   pub under : Under size code m store tables values r store′ tables′ values′ (p .registers) (p .left)
-  pub ends : 1 ≤ p .left → p .registers .state ≡ running → p .registers .pc < n →
-      Others (instructionAt code (p .registers .pc) .opcode)
   pub went : p .registers .state ≡ running → p .left < m
 
 -- a run does what the definitions say, and counts what was carried out

@@ -40,7 +40,7 @@ fn carry(
     dispatch::execute(store, tables, values, size, n, r, i.opcode, i.operand)
 }
 
-// The instruction that ended the turns, and the turns after it.
+// Turns, and the instruction that ended them, where one did.
 fn onward(
     code: &[u8],
     words: &[u32],
@@ -58,20 +58,31 @@ fn onward(
     requires { ⌜ size ≤ 32 ⌝ }
     requires { ⌜ Sound size (boxed (now store) (now tables) (now values) r) ⌝ }
     requires { ⌜ r .state ≡ 1 ⌝ }
-    requires { ⌜ (r .pc < n → Others (instructionAt (now code) (r .pc) .opcode)) ⌝ }
     requires { ⌜ 1 ≤ m ⌝ }
     ensures { λ p.
-        ⌜ Onward size (now (code .entry)) n m (now (store .entry)) (now (tables .entry)) (now (values .entry)) r
+        ⌜ Onward size (now (code .entry)) m (now (store .entry)) (now (tables .entry)) (now (values .entry)) r
         (now (store .exit)) (now (tables .exit)) (now (values .exit)) p ⌝ }
 {
-    let after = carry(code, store, tables, values, size, n, r);
+    let p = turns(code, words, store, tables, size, n, k, r, m);
+    let here = p.registers;
+    let left = p.left;
+    if left == 0 {
+        return p;
+    }
+    if here.state != states::RUNNING {
+        return p;
+    }
+    let after = carry(code, store, tables, values, size, n, here);
     if after.state == states::FAULTED {
         return Standing {
             registers: after,
-            left: m,
+            left,
         };
     }
-    turns(code, words, store, tables, size, n, k, after, m - 1)
+    Standing {
+        registers: after,
+        left: left - 1,
+    }
 }
 
 // Runs a machine for at most `m` instructions, until it stops.
@@ -95,9 +106,8 @@ pub fn run(
         ⌜ Lasts size (now (code .entry)) (now (store .entry)) (now (tables .entry)) (now (values .entry)) r m
         (now (store .exit)) (now (tables .exit)) (now (values .exit)) p ⌝ }
 {
-    let first = turns(code, words, store, tables, size, n, k, r, m);
-    let mut registers = first.registers;
-    let mut left = first.left;
+    let mut registers = r;
+    let mut left = m;
     while 0 < left {
         if registers.state != states::RUNNING {
             return Progress {

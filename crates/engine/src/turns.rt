@@ -4,6 +4,7 @@
 ghost use Prim.Native.Nat.{_≤_};
 ghost use lib.IntN.{pos};
 ghost use lib.ListN.{length};
+ghost use mathlib.Core.Path.{_≡_};
 ghost use Rattle.card.specs.Code.{Unpacked};
 ghost use Rattle.cells.specs.Contract.{Able, Acts, Made};
 ghost use Rattle.engine.specs.Contract.{Carded, Seated, Sorts, Turned, Turning};
@@ -69,7 +70,7 @@ fn turn(
 }
 
 // Runs a machine for at most `m` instructions, until it stops or an instruction comes that is taken elsewhere. The
-// card has `n`, of which the first `k` are unpacked in `words`. Called from two places, as `stretch` is.
+// card has `n`, of which the first `k` are unpacked in `words`.
 pub fn turns(
     code: &[u8],
     words: &[u32],
@@ -85,16 +86,11 @@ pub fn turns(
     requires { ⌜ Unpacked (now code) n (now words) k ⌝ }
     requires { ⌜ size ≤ 32 ⌝ }
     requires { ⌜ Seated size (now store) (now tables) r ⌝ }
+    requires { ⌜ r .state ≡ 1 ⌝ }
     ensures { λ p.
         ⌜ Turned size (now (code .entry)) n m (now (store .entry)) (now (tables .entry)) r
         (now (store .exit)) (now (tables .exit)) p ⌝ }
 {
-    if r.state != states::RUNNING {
-        return Standing {
-            registers: r,
-            left: m,
-        };
-    }
     let mut thread = r.thread;
     let first = stretch(words, store, size, thread, k, r.pc, r.cells, r.fp, m);
     let mut context = first.context;

@@ -6,14 +6,8 @@ use borrow.Author.Needs.{needs, sfits-of}
 use Rattle.engine.proofs.runs.carry.Statement.{statement}
 use Rattle.engine.proofs.runs.carry.Tie as tie
 
-stop-requires : tie.Need-stop-requires
-stop-requires c κs = search needs
-
 returns : tie.Need-returns
 returns c = rw (c .stop .ensures) (past-end _ _ (c .before .before .before .before .pre .0) _ _ (c .before .if1 .taken))
-
-fetch-requires : tie.Need-fetch-requires
-fetch-requires c κs = search needs
 
 execute-requires : tie.Need-execute-requires
 execute-requires c κs =
@@ -24,15 +18,6 @@ execute-requires c κs =
       rw (toZ-ofZ (sfits-of {w = w32} {z = c .before .before .before .before .fetch .result .operand} (c .struct-told .given .1 .0 .1)), c .before .before .before .before .fetch .ensures) (fine .0, (given .1 .1 .1 .1 below, fine .1)),
     )
 
-same-length : tie.Need-same-length
-same-length c = search needs
-
-same-length-2 : tie.Need-same-length-2
-same-length-2 c = search needs
-
-same-length-3 : tie.Need-same-length-3
-same-length-3 c = search needs
-
 returns-2 : tie.Need-returns-2
 returns-2 c =
     rw (c .before .before .before .before .execute .ensures, toZ-ofZ (sfits-of {w = w32} {z = c .before .before .before .before .before .before .before .before .before .fetch .result .operand} (c .before .before .before .before .before .struct-told .given .1 .0 .1)), c .before .before .before .before .before .before .before .before .before .fetch .ensures) (at-pc _ _ (c .before .before .before .before .before .before .before .before .before .before .before .before .before .pre .0) _ _ (c .before .before .before .before .before .before .before .before .before .before .if1 .left))
@@ -41,11 +26,11 @@ pub carry-spec : {M : Type 1} → statement M
 carry-spec =
     tie.close
     (tie.spec
-    stop-requires
+    (λ c κs. search needs)
     returns
-    fetch-requires
+    (λ c κs. search needs)
     execute-requires
-    same-length
-    same-length-2
-    same-length-3
+    (λ c. search needs)
+    (λ c. search needs)
+    (λ c. search needs)
     returns-2)

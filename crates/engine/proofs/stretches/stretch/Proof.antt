@@ -18,49 +18,31 @@ abbrev μ-loop : tie.MeasureT-loop
     left
 
 loop-holds : tie.Need-loop-holds Inv-loop μ-loop
-loop-holds c = (enter _ _ _ _ _ _ _, refl)
-
-same-length : tie.Need-same-length Inv-loop μ-loop
-same-length c = c .before .before .loop .inv .1
+loop-holds c = (enter, refl)
 
 returns : tie.Need-returns Inv-loop μ-loop
 returns c = c .before .before .loop .inv .0
-
-add-execute : tie.Need-add-execute Inv-loop μ-loop
-add-execute c = omega (arith, c .if1 .left, c .before .before .before .before .fits .n)
-
-mul-execute : tie.Need-mul-execute Inv-loop μ-loop
-mul-execute c = search needs
 
 shared-slice-read-execute : tie.Need-shared-slice-read-execute Inv-loop μ-loop
 shared-slice-read-execute c = omega (arith, c .before .before .if1 .left, c .before .before .before .before .before .before .pre .0 .unpacked .long)
 
 execute-requires : tie.Need-execute-requires Inv-loop μ-loop
 execute-requires c κs = (
-  fits _ _ _ _ _ _ _ _ _ _ (c .before .before .before .before .loop .inv .0) (c .before .before .before .before .before .before .pre .0) (c .before .before .before .before .before .before .pre .1 .1) (c .before .before .if1 .left) (c .before .before .before .before .before .before .pre .1 .0),
-  allowed _ _ _ _ _ _ _ _ _ _ (c .before .before .before .before .loop .inv .0) (c .before .before .before .before .before .before .pre .0) (c .before .before .before .before .before .before .pre .1 .1) (c .before .before .if1 .left),
+  fits (c .before .before .before .before .loop .inv .0) (c .before .before .before .before .before .before .pre .0) (c .before .before .before .before .before .before .pre .1 .1) (c .before .before .if1 .left) (c .before .before .before .before .before .before .pre .1 .0),
+  allowed (c .before .before .before .before .loop .inv .0) (c .before .before .before .before .before .before .pre .0) (c .before .before .before .before .before .before .pre .1 .1) (c .before .before .if1 .left),
 )
-
-same-length-2 : tie.Need-same-length-2 Inv-loop μ-loop
-same-length-2 c = c .before .before .before .execute .kept .0 ∙ c .before .before .before .before .before .before .before .before .loop .inv .1
 
 returns-2 : tie.Need-returns-2 Inv-loop μ-loop
 returns-2 c = rw (c .before .before .before .execute .ensures .kept (not-true _ (c .if2 .taken))) (c .before .before .before .before .before .before .before .before .loop .inv .0)
-
-sub-left : tie.Need-sub-left Inv-loop μ-loop
-sub-left c = omega (arith, c .before .before .before .before .before .before .before .before .loop-test .taken)
 
 loop-less : tie.Need-loop-less Inv-loop μ-loop
 loop-less c = omega (arith, c .before .before .before .before .before .before .before .before .loop-test .taken)
 
 loop-again : tie.Need-loop-again Inv-loop μ-loop
 loop-again c = (
-  one-more _ _ _ _ _ _ _ _ _ _ (c .before .before .before .before .before .before .before .before .before .loop .inv .0) (c .before .before .before .before .before .before .before .if1 .left) _ _ (c .before .before .before .before .execute .ensures) (omega (arith, c .before .before .before .before .before .before .before .before .loop-test .taken)) (not-false _ (c .before .if2 .left)),
+  one-more (c .before .before .before .before .before .before .before .before .before .loop .inv .0) (c .before .before .before .before .before .before .before .if1 .left) (c .before .before .before .before .execute .ensures) (omega (arith, c .before .before .before .before .before .before .before .before .loop-test .taken)) (not-false _ (c .before .if2 .left)),
   c .before .before .before .before .execute .kept .0 ∙ c .before .before .before .before .before .before .before .before .before .loop .inv .1,
 )
-
-same-length-3 : tie.Need-same-length-3 Inv-loop μ-loop
-same-length-3 c = c .before .loop .inv .1
 
 returns-3 : tie.Need-returns-3 Inv-loop μ-loop
 returns-3 c = c .before .loop .inv .0
@@ -72,16 +54,16 @@ stretch-spec =
     Inv-loop
     μ-loop
     loop-holds
-    same-length
+    (λ c. search needs)
     returns
-    add-execute
-    mul-execute
+    (λ c. search needs)
+    (λ c. search needs)
     shared-slice-read-execute
     execute-requires
-    same-length-2
+    (λ c. search needs)
     returns-2
-    sub-left
+    (λ c. search needs)
     loop-less
     loop-again
-    same-length-3
+    (λ c. search needs)
     returns-3)

@@ -15,31 +15,13 @@ last op (inl e) a b = absurd (a e)
 last op (inr (inl e)) a b = absurd (b e)
 last op (inr (inr e)) a b = e
 
-yield-turn-requires : tie.Need-yield-turn-requires
-yield-turn-requires c κs = search needs
-
-same-length : tie.Need-same-length
-same-length c = search needs
-
 returns : tie.Need-returns
 unfolding instructionOf
 returns c n values = rw (c .before .before .before .before .if1 .taken) (c .before .before .yield-turn .ensures _ n values)
 
-lock-requires : tie.Need-lock-requires
-lock-requires c κs = search needs
-
-same-length-2 : tie.Need-same-length-2
-same-length-2 c = search needs
-
 returns-2 : tie.Need-returns-2
 unfolding instructionOf
 returns-2 c n values = rw (c .before .before .before .before .if2 .taken) (c .before .before .lock .ensures n values)
-
-unlock-requires : tie.Need-unlock-requires
-unlock-requires c κs = search needs
-
-same-length-3 : tie.Need-same-length-3
-same-length-3 c = search needs
 
 returns-3 : tie.Need-returns-3
 unfolding instructionOf
@@ -49,12 +31,12 @@ pub turn-spec : {M : Type 1} → statement M
 turn-spec =
     tie.close
     (tie.spec
-    yield-turn-requires
-    same-length
+    (λ c κs. search needs)
+    (λ c. search needs)
     returns
-    lock-requires
-    same-length-2
+    (λ c κs. search needs)
+    (λ c. search needs)
     returns-2
-    unlock-requires
-    same-length-3
+    (λ c κs. search needs)
+    (λ c. search needs)
     returns-3)
