@@ -1,6 +1,7 @@
 // Step and run. Each call tests its card, store and tables once, in the paper's order, and a run then goes on without
 // looking at them again.
 ghost use Prim.Native.Nat.{_≤_};
+ghost use Rattle.cma.specs.Contract.{Judges, Ready};
 ghost use Rattle.outcome.specs.Outcome.{Gives};
 ghost use Rattle.machine.specs.Calls.{boxed, runCall, stepCall};
 ghost use Rattle.machine.specs.Size.{full};
@@ -11,8 +12,52 @@ use outcome::Outcome;
 use outcome::ended;
 use outcome::refused;
 
-// The card is unpacked into `words`, where there is room for it; else each instruction is taken from the image.
-fn run_box(
+// What the tests of a call give.
+pub enum Verdict {
+    Passed,
+    Refused { number: usize, place: usize },
+}
+
+// Tests the card, then the store's size, then the tables. Called from two places, as `proceed` is, and so the compiler
+// leaves each a function of its own: in one with the engine, the test of the tables takes longer.
+fn judge(
+    image: &[u8],
+    store: &[i32],
+    tables: &[usize],
+    values: &[i32],
+    size: usize,
+    r: Registers,
+) -> Verdict
+    requires { ⌜ size ≤ 32 ⌝ }
+    ensures { λ v.
+        ⌜ Judges size (now (image .entry)) (boxed (now (store .entry)) (now (tables .entry)) (now (values .entry)) r) v ⌝ }
+{
+    match card::read(image) {
+        Reading::Refused { number, place } => Verdict::Refused {
+            number: number as usize,
+            place,
+        },
+        Reading::Accepted { cells: _ } => {
+            if store.len() != 256 * size {
+                return Verdict::Refused {
+                    number: 6,
+                    place: 0,
+                };
+            }
+            if !wellformed::well_formed(r, tables, values, size) {
+                return Verdict::Refused {
+                    number: 7,
+                    place: 0,
+                };
+            }
+            Verdict::Passed
+        }
+    }
+}
+
+// Runs a card that passed. It is unpacked into `words`, where there is room for it; else each instruction is taken from
+// the image.
+fn proceed(
     image: &[u8],
     store: &mut [i32],
     tables: &mut [usize],
@@ -23,28 +68,18 @@ fn run_box(
     m: usize,
 ) -> Outcome
     requires { ⌜ size ≤ 32 ⌝ }
+    requires { ⌜ Ready size (now image) (boxed (now store) (now tables) (now values) r) ⌝ }
     ensures { λ o.
         ⌜ Gives (runCall size (now (image .entry)) m
         (boxed (now (store .entry)) (now (tables .entry)) (now (values .entry)) r)) o
         (now (store .exit)) (now (tables .exit)) (now (values .exit)) ⌝ }
 {
-    match card::read(image) {
-        Reading::Refused { number, place } => refused(number as usize, place, r),
-        Reading::Accepted { cells: _ } => {
-            if store.len() != 256 * size {
-                return refused(6, 0, r);
-            }
-            if !wellformed::well_formed(r, tables, values, size) {
-                return refused(7, 0, r);
-            }
-            // The card was read, so its code part is what follows the header.
-            let code = &image[9..];
-            let n = code.len() / 4;
-            let k = card::unpack(code, n, words);
-            let p = engine::run(code, words, store, tables, values, size, n, k, r, m);
-            ended(p.registers, p.count)
-        }
-    }
+    // The code part is what follows the header.
+    let code = &image[9..];
+    let n = code.len() / 4;
+    let k = card::unpack(code, n, words);
+    let p = engine::run(code, words, store, tables, values, size, n, k, r, m);
+    ended(p.registers, p.count)
 }
 
 // One step of a machine in the box of 32 threads.
@@ -60,9 +95,14 @@ pub fn step(
         (boxed (now (store .entry)) (now (tables .entry)) (now (values .entry)) r)) o
         (now (store .exit)) (now (tables .exit)) (now (values .exit)) ⌝ }
 {
-    // Unpacking the card would cost more than its one instruction.
-    let mut words = [0; 0];
-    run_box(image, store, tables, values, &mut words, 32, r, 1)
+    match judge(image, store, tables, values, 32, r) {
+        Verdict::Refused { number, place } => refused(number, place, r),
+        Verdict::Passed => {
+            // Unpacking the card would cost more than its one instruction.
+            let mut words = [0; 0];
+            proceed(image, store, tables, values, &mut words, 32, r, 1)
+        }
+    }
 }
 
 // A run of `m` steps, which stops early when the machine does.
@@ -79,6 +119,11 @@ pub fn run(
         (boxed (now (store .entry)) (now (tables .entry)) (now (values .entry)) r)) o
         (now (store .exit)) (now (tables .exit)) (now (values .exit)) ⌝ }
 {
-    let mut words = [0; sizes::INSTRUCTIONS];
-    run_box(image, store, tables, values, &mut words, 32, r, m)
+    match judge(image, store, tables, values, 32, r) {
+        Verdict::Refused { number, place } => refused(number, place, r),
+        Verdict::Passed => {
+            let mut words = [0; sizes::INSTRUCTIONS];
+            proceed(image, store, tables, values, &mut words, 32, r, m)
+        }
+    }
 }
