@@ -1,7 +1,7 @@
 -- What the instructions on cells ask, and what they promise: the state that the definitions give, whatever else the
 -- machine holds.
 use Prim.Native.Nat.{ℕ, _*_, _<_, _≤_}
-use mathlib.Core.Bool.{cond}
+use mathlib.Core.Bool.{Bool, true, false, cond}
 use mathlib.Core.List.{List}
 use mathlib.Core.Path.{_≡_}
 use lib.Dec.{ltb}
@@ -87,3 +87,8 @@ indexOf (negsuc a) limit = Out
 -- an instruction on the registers alone does so in every box, on every store
 abbrev pub DoesAnywhere : Instruction → Registers → Registers → Type 0
 DoesAnywhere i r q = (size : ℕ) (store : List ℤ) → Does size i store r store q
+
+-- a test tells whether something holds
+pub record Tells (P : Type 0) (b : Bool) : Type 0 where
+  pub holds : b ≡ true → P
+  pub fails : b ≡ false → P → ⊥

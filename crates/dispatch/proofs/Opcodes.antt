@@ -1,6 +1,6 @@
 -- Opcodes that the dispatcher's matches leave. Assumes nothing.
 use Prim.Native.Nat.{ℕ, _<_, _≤_}
-use mathlib.Core.Logic.{_⊎_, inl, inr}
+use mathlib.Core.Logic.{_⊎_, inl, inr, _≢_}
 use mathlib.Core.Path.{_≡_}
 use native.Mathlib.Omega.{arith}
 use Rattle.local.proofs.Opcodes.{NoneOf, from-none}
@@ -17,8 +17,10 @@ own op others most h =
   where
     by-opcode : (op < 34) ⊎ (41 ≤ op) → (op < 28) ⊎ (32 ≤ op) → (op < 24) ⊎ (27 ≤ op) → op ≤ 23
     by-opcode (inr e) d b = absurd (omega (arith, e, most))
-    by-opcode (inl e) (inr d) b = absurd (others .1 .0 (omega (arith, e, d, others .1 .1)))
-    by-opcode (inl e) (inl d) (inr b) = absurd (others .0 (omega (arith, d, b)))
+    by-opcode (inl e) (inr d) b =
+        let last : op ≢ 33 = λ f. others (inr (inr f)) in
+        absurd (others (inr (inl (omega (arith, e, d, last)))))
+    by-opcode (inl e) (inl d) (inr b) = absurd (others (inl (omega (arith, d, b))))
     by-opcode (inl e) (inl d) (inl b) = omega (arith, b)
 
 -- .. and of these call

@@ -1,7 +1,7 @@
 -- What an instruction asks.
 use Prim.Native.Nat.{ℕ, _*_, _<_, _≤_}
 use mathlib.Core.List.{List}
-use mathlib.Core.Logic.{_≢_}
+use mathlib.Core.Logic.{_⊎_, _≢_}
 use mathlib.Core.Path.{_≡_}
 use lib.IntN.{ℤ}
 use lib.ListN.{length}
@@ -19,9 +19,13 @@ pub record Working (size : ℕ) (r : Registers) (cells : ℕ) (tables : List ℕ
   -- no more threads wait for a semaphore than there are
   pub low : (k : ℕ) → k < r .semaphores → Low size values k
 
--- the opcodes of all instructions but yield, lock and unlock
+-- the opcodes of yield, lock and unlock, ..
+abbrev pub Turning : ℕ → Type 0
+Turning opcode = (opcode ≡ 27) ⊎ ((opcode ≡ 32) ⊎ (opcode ≡ 33))
+
+-- .. and of all other instructions
 abbrev pub Others : ℕ → Type 0
-Others opcode = (opcode ≢ 27) × ((opcode ≢ 32) × (opcode ≢ 33))
+Others opcode = Turning opcode → ⊥
 
 -- the opcodes from loadc to call but alloc: the instructions that are tried in a context
 pub record Own (opcode : ℕ) : Type 0 where

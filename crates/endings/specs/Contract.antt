@@ -1,6 +1,5 @@
 -- What the functions on a thread's end promise.
 use Prim.Native.Nat.{ℕ}
-use mathlib.Core.Bool.{Bool, true, false}
 use mathlib.Core.List.{List}
 use mathlib.Core.Path.{_≡_}
 use lib.IntN.{ℤ}
@@ -13,8 +12,3 @@ use Rattle.cells.specs.Contract.{at}
 abbrev pub Ends : ℕ → ℤ → List ℕ → List ℤ → Registers → List ℕ → List ℤ → Registers → Type 0
 Ends size v tables values r tables′ values′ q =
     (store : List ℤ) → at store (tablesOf size tables′) values′ q ≡ ends size (at store (tablesOf size tables) values r) v
-
--- a test tells whether something holds
-pub record Tells (P : Type 0) (b : Bool) : Type 0 where
-  pub holds : b ≡ true → P
-  pub fails : b ≡ false → P → ⊥

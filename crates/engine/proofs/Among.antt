@@ -9,10 +9,10 @@ use lib.IntN.{ℤ, pos}
 use lib.ListN.{length}
 use Rattle.card.specs.Code.{Unpacked, instructionAt}
 use Rattle.cells.specs.Contract.{Acts}
-use Rattle.dispatch.specs.Contract.{Working}
-use Rattle.engine.specs.Contract.{Carded, Carries, Housed, Inside, Seated, Turning, Under, stateAt}
+use Rattle.dispatch.specs.Contract.{Turning, Working}
+use Rattle.engine.specs.Contract.{Carded, Carries, Housed, Inside, Seated, Under, contextOf, stateAt}
 use Rattle.engine.proofs.Course.{entered, one-done, one-fault, onward-from}
-use Rattle.engine.proofs.Taking.{contextOf, only-turn, same-turn, stays-idle}
+use Rattle.engine.proofs.Taking.{only-turn, same-turn, stays-idle}
 use Rattle.engine.proofs.Working.{at-pc, runner-lives, working}
 use Rattle.machine.specs.Calls.{boxed}
 use Rattle.machine.specs.Context.{inContext}

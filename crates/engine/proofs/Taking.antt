@@ -7,7 +7,8 @@ use mathlib.Core.Logic.{inl, inr, _≢_}
 use native.Mathlib.Omega.{arith}
 use lib.Dec.{eqb, ltb}
 use lib.IntN.{ℤ, pos, negsuc}
-use Rattle.engine.specs.Contract.{Turning}
+use Rattle.dispatch.specs.Contract.{Turning}
+use Rattle.engine.specs.Contract.{contextOf}
 use Rattle.locks.proofs.Idle.{idle-lock, idle-unlock}
 use Rattle.machine.proofs.Equations.{lock-is, unlock-is, yield-is}
 use Rattle.machine.proofs.Lists.{cases}
@@ -40,10 +41,6 @@ unfolding instructionOf
 stays-idle size n k op s (inl e) live h = rw e (idle-yield size n k s live h)
 stays-idle size n k op s (inr (inl e)) live h = rw e (idle-lock size n k s live h)
 stays-idle size n k op s (inr (inr e)) live h = rw e (idle-unlock size n k s live h)
-
--- registers' context
-abbrev pub contextOf : Registers → Context
-contextOf r = record { pc = r .pc; cells = r .cells; fp = r .fp }
 
 -- a machine that still runs has other registers in its running thread and context alone
 abbrev pub Only : Registers → Registers → Type 0

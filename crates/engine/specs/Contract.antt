@@ -1,8 +1,6 @@
 -- What the engine asks and promises.
 use Prim.Native.Nat.{ℕ, _*_, _-_, _<_, _≤_}
-use mathlib.Core.Bool.{Bool, true, false}
 use mathlib.Core.List.{List}
-use mathlib.Core.Logic.{_⊎_}
 use mathlib.Core.Path.{_≡_}
 use lib.IntN.{ℤ}
 use lib.ListN.{length}
@@ -61,6 +59,10 @@ pub record Under (size : ℕ) (code : List ℕ) (m : ℕ) (store₀ : List ℤ) 
 abbrev pub contextAt : ℕ → ℕ → ℕ → Context
 contextAt pc cells fp = record { pc = pc; cells = cells; fp = fp }
 
+-- .. and that of the registers
+abbrev pub contextOf : Registers → Context
+contextOf r = contextAt (r .pc) (r .cells) (r .fp)
+
 -- the words of some accepted card, unpacked
 pub record Loaded (words : List ℕ) (k : ℕ) : Type 0 where
   pub code : List ℕ
@@ -88,15 +90,6 @@ Inside size words k m store₀ t c₀ store c left =
 -- what a stretch leaves
 abbrev pub Stretched : ℕ → List ℕ → ℕ → ℕ → List ℤ → ℕ → Context → List ℤ → Reached → Type 0
 Stretched size words k m store t c store′ p = Inside size words k m store t c store′ (p .context) (p .left)
-
--- the opcodes of yield, lock and unlock
-abbrev pub Turning : ℕ → Type 0
-Turning opcode = (opcode ≡ 27) ⊎ ((opcode ≡ 32) ⊎ (opcode ≡ 33))
-
--- a test tells them from the others
-pub record Sorts (opcode : ℕ) (b : Bool) : Type 0 where
-  pub turning : b ≡ true → Turning opcode
-  pub others : b ≡ false → Others opcode
 
 -- store, tables and registers that are those of some sound box
 pub record Seated (size : ℕ) (store : List ℤ) (tables : List ℕ) (r : Registers) : Type 0 where

@@ -6,8 +6,9 @@ ghost use lib.IntN.{pos};
 ghost use lib.ListN.{length};
 ghost use mathlib.Core.Path.{_≡_};
 ghost use Rattle.card.specs.Code.{Unpacked};
-ghost use Rattle.cells.specs.Contract.{Able, Acts, Made};
-ghost use Rattle.engine.specs.Contract.{Carded, Seated, Sorts, Turned, Turning};
+ghost use Rattle.cells.specs.Contract.{Able, Acts, Made, Tells};
+ghost use Rattle.dispatch.specs.Contract.{Turning};
+ghost use Rattle.engine.specs.Contract.{Carded, Seated, Turned};
 ghost use Rattle.machine.specs.Instructions.{instructionOf};
 ghost use Rattle.machine.specs.Tables.{tablesOf};
 ghost use Rattle.tables.specs.Good.{Good};
@@ -30,7 +31,7 @@ pub struct Standing {
 }
 
 fn is_turn(opcode: u32) -> bool
-    ensures { λ b. ⌜ Sorts opcode b ⌝ }
+    ensures { λ b. ⌜ Tells (Turning opcode) b ⌝ }
 {
     if opcode == YIELD {
         return true;

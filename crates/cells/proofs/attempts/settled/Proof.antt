@@ -3,12 +3,6 @@ use borrow.Author.Needs.{needs}
 use Rattle.cells.proofs.attempts.settled.Statement.{statement}
 use Rattle.cells.proofs.attempts.settled.Tie as tie
 
-with-context-requires : tie.Need-with-context-requires
-with-context-requires c κs = search needs
-
-stop-requires : tie.Need-stop-requires
-stop-requires c κs = search needs
-
 returns : tie.Need-returns
 returns c = rw (c .with-context .ensures, c .before .if1 .taken)
 
@@ -16,4 +10,8 @@ returns-2 : tie.Need-returns-2
 returns-2 c = rw (c .stop .ensures, c .before .if1 .left)
 
 pub settled-spec : {M : Type 1} → statement M
-settled-spec = tie.close (tie.spec with-context-requires stop-requires returns returns-2)
+settled-spec = tie.close (tie.spec
+    (λ c κs. search needs)
+    (λ c κs. search needs)
+    returns
+    returns-2)

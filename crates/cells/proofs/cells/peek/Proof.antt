@@ -12,30 +12,6 @@ use mir.Syntax.{w32}
 use Rattle.cells.proofs.cells.peek.Statement.{statement}
 use Rattle.cells.proofs.cells.peek.Tie as tie
 
-add-at : tie.Need-add-at
-add-at c = search needs
-
-mul-at : tie.Need-mul-at
-mul-at c = search needs
-
-mul-stack : tie.Need-mul-stack
-mul-stack c = search needs
-
-sub-stack : tie.Need-sub-stack
-sub-stack c = search needs
-
-part-stack-start : tie.Need-part-stack-start
-part-stack-start c = search needs
-
-part-stack-end : tie.Need-part-stack-end
-part-stack-end c = search needs
-
-mul-result : tie.Need-mul-result
-mul-result c = search needs
-
-shared-slice-copy-out-result : tie.Need-shared-slice-copy-out-result
-shared-slice-copy-out-result c = search needs
-
 returns : tie.Need-returns
 returns c =
     let args = c .before .before .args in
@@ -51,12 +27,12 @@ pub peek-spec : {M : Type 1} → statement M
 peek-spec =
     tie.close
     (tie.spec
-    add-at
-    mul-at
-    mul-stack
-    sub-stack
-    part-stack-start
-    part-stack-end
-    mul-result
-    shared-slice-copy-out-result
+    (λ c. search needs)
+    (λ c. search needs)
+    (λ c. search needs)
+    (λ c. search needs)
+    (λ c. search needs)
+    (λ c. search needs)
+    (λ c. search needs)
+    (λ c. search needs)
     returns)

@@ -8,11 +8,11 @@ use Rattle.cells.proofs.index.checked.Tie as tie
 cast-ranged : tie.Need-cast-ranged
 cast-ranged c = search cast-fits
 
-ranged-requires : tie.Need-ranged-requires
-ranged-requires c κs = search needs
-
 returns : tie.Need-returns
 returns c = rw (toZ-ofZ (cast-fits (c .before .fits .v)), toZ-ofZ (c .before .fits .v)) at (c .ranged .ensures)
 
 pub checked-spec : {M : Type 1} → statement M
-checked-spec = tie.close (tie.spec cast-ranged ranged-requires returns)
+checked-spec = tie.close (tie.spec
+    cast-ranged
+    (λ c κs. search needs)
+    returns)

@@ -19,20 +19,19 @@ module _ {fp : ℕ} {k : ℤ} (h : fp ≤ 127) (f : SFits w32 k) where
   sum-fits : SFits w64 (pos fp +ℤ k)
   sum-fits = sum (pos fp) k (sfits-of {w = w32} {z = pos fp} (omega arith)) f
 
-cast-ranged : tie.Need-cast-ranged
-cast-ranged c = search needs
-
 cast-ranged-2 : tie.Need-cast-ranged-2
 cast-ranged-2 c = search cast-fits
 
 add-ranged : tie.Need-add-ranged
 add-ranged c = rw (wide (c .pre) (c .fits .k)) (sum-fits (c .pre) (c .fits .k))
 
-ranged-requires : tie.Need-ranged-requires
-ranged-requires c κs = search needs
-
 returns : tie.Need-returns
 returns c = rw (wide (c .before .pre) (c .before .fits .k), toZ-ofZ (sum-fits (c .before .pre) (c .before .fits .k))) at (c .ranged .ensures)
 
 pub offset-spec : {M : Type 1} → statement M
-offset-spec = tie.close (tie.spec cast-ranged cast-ranged-2 add-ranged ranged-requires returns)
+offset-spec = tie.close (tie.spec
+    (λ c. search needs)
+    cast-ranged-2
+    add-ranged
+    (λ c κs. search needs)
+    returns)

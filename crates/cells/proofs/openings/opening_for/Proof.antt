@@ -11,15 +11,6 @@ use Rattle.cells.proofs.openings.opening_for.Tie as tie
 number : (c : tie.After-checked) → indexOf (c .before .args .v) (c .before .args .limit) ≡ c .checked .result
 number c = sym (rw (toZ-ofZ (c .before .fits .v)) at (c .checked .ensures))
 
-checked-requires : tie.Need-checked-requires
-checked-requires c κs = search needs
-
-enum-told : tie.Need-enum-told
-enum-told c = search needs
-
-enum-known-a : tie.Need-enum-known-a
-enum-known-a c = search needs
-
 returns : tie.Need-returns
 returns c = rw (number (c .before .before) ∙ c .enum-told .given .1)
 
@@ -31,4 +22,11 @@ returns-3 c = rw (number (c .before .before .before .before) ∙ c .before .befo
 
 pub opening-for-spec : {M : Type 1} → statement M
 opening-for-spec =
-    tie.close (tie.spec checked-requires enum-told enum-known-a returns returns-2 returns-3)
+    tie.close
+    (tie.spec
+    (λ c κs. search needs)
+    (λ c. search needs)
+    (λ c. search needs)
+    returns
+    returns-2
+    returns-3)

@@ -9,18 +9,6 @@ use Rattle.cells.proofs.top.number_at.Tie as tie
 returns : tie.Need-returns
 returns c = too-few _ _ _ _ _ _ (c .if1 .taken)
 
-peek-requires : tie.Need-peek-requires
-peek-requires c κs = search needs
-
-checked-requires : tie.Need-checked-requires
-checked-requires c κs = search needs
-
-enum-known-i : tie.Need-enum-known-i
-enum-known-i c = search needs
-
-enum-told : tie.Need-enum-told
-enum-told c = search needs
-
 returns-2 : tie.Need-returns-2
 returns-2 c = found _ _ _ _ _ _ _ (c .before .before .before .before .if1 .left) (of-cell _ {x = c .before .before .before .peek .result} (c .before .before .before .peek .ok) (c .before .before .before .peek .ensures) (c .before .before .checked .ensures) ∙ c .enum-told .given .1)
 
@@ -30,4 +18,11 @@ returns-3 c = found _ _ _ _ _ _ _ (c .before .before .before .before .before .if
 pub number-at-spec : {M : Type 1} → statement M
 number-at-spec =
     tie.close
-    (tie.spec returns peek-requires checked-requires enum-known-i enum-told returns-2 returns-3)
+    (tie.spec
+    returns
+    (λ c κs. search needs)
+    (λ c κs. search needs)
+    (λ c. search needs)
+    (λ c. search needs)
+    returns-2
+    returns-3)

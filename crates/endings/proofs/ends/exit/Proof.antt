@@ -11,40 +11,16 @@ use Rattle.endings.proofs.Frames.{ending-free, ending-owned}
 use Rattle.endings.proofs.ends.exit.Statement.{statement}
 use Rattle.endings.proofs.ends.exit.Tie as tie
 
-stop-requires : tie.Need-stop-requires
-stop-requires c κs = search needs
-
 returns : tie.Need-returns
 returns c n = rw (c .stop .ensures) (faults _ n _ _ 21 (exit-is _ n _ ∙ needs-less 1 _ _ (omega arith)))
-
-owns-any-requires : tie.Need-owns-any-requires
-owns-any-requires c κs = search needs
-
-stop-requires-2 : tie.Need-stop-requires-2
-stop-requires-2 c κs = search needs
-
-same-length : tie.Need-same-length
-same-length c = search needs
 
 returns-2 : tie.Need-returns-2
 returns-2 c n =
     rw (c .stop2 .ensures)
     (faults _ n _ _ 31 (exit-is _ n _ ∙ needs-met 1 _ _ (omega arith) ∙ ending-owned _ _ _ (sym (c .before .before .owns-any .ensures) ∙ c .before .if2 .taken)))
 
-peek-requires : tie.Need-peek-requires
-peek-requires c κs = search needs
-
-advance-requires : tie.Need-advance-requires
-advance-requires c κs = search needs
-
 finish-requires : tie.Need-finish-requires
 finish-requires c κs = rw (c .advance .ensures) (c .before .before .before .before .before .before .before .before .before .pre .1 .0, (c .before .before .before .before .before .before .before .before .before .pre .1 .1, c .before .before .before .before .before .before .before .before .before .pre .0 .thread))
-
-same-length-2 : tie.Need-same-length-2
-same-length-2 c = search needs
-
-same-length-3 : tie.Need-same-length-3
-same-length-3 c = search needs
 
 returns-3 : tie.Need-returns-3
 returns-3 c n =
@@ -55,15 +31,15 @@ pub exit-spec : {M : Type 1} → statement M
 exit-spec =
     tie.close
     (tie.spec
-    stop-requires
+    (λ c κs. search needs)
     returns
-    owns-any-requires
-    stop-requires-2
-    same-length
+    (λ c κs. search needs)
+    (λ c κs. search needs)
+    (λ c. search needs)
     returns-2
-    peek-requires
-    advance-requires
+    (λ c κs. search needs)
+    (λ c κs. search needs)
     finish-requires
-    same-length-2
-    same-length-3
+    (λ c. search needs)
+    (λ c. search needs)
     returns-3)

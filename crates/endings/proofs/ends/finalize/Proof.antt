@@ -10,26 +10,8 @@ use Rattle.threads.specs.Contract.{threadNamed}
 use Rattle.endings.proofs.ends.finalize.Statement.{statement}
 use Rattle.endings.proofs.ends.finalize.Tie as tie
 
-a-thread-requires : tie.Need-a-thread-requires
-a-thread-requires c κs = search needs
-
-enum-known-number : tie.Need-enum-known-number
-enum-known-number c = search needs
-
-stop-requires : tie.Need-stop-requires
-stop-requires c κs = search needs
-
-enum-known-t : tie.Need-enum-known-t
-enum-known-t c = search needs
-
 has-ended-requires : tie.Need-has-ended-requires
 has-ended-requires c κs = let there = passed _ _ _ _ _ _ _ (c .before .before .before .a-thread .ensures ∙ ap threadNamed (c .before .t .given .1)) in (omega (arith, c .before .before .before .before .before .before .pre .1 .0 .long), omega (arith, there .below, c .before .before .before .before .before .before .pre .1 .1 .1 .threads))
-
-stop-requires-2 : tie.Need-stop-requires-2
-stop-requires-2 c κs = search needs
-
-same-length : tie.Need-same-length
-same-length c = search needs
 
 returns : tie.Need-returns
 returns c n =
@@ -42,20 +24,8 @@ result-requires c κs = let there = passed _ _ _ _ _ _ _ (c .before .before .bef
 sub-poke : tie.Need-sub-poke
 sub-poke c = let there = passed _ _ _ _ _ _ _ (c .before .before .before .before .before .before .before .a-thread .ensures ∙ ap threadNamed (c .before .before .before .before .before .t .given .1)) in omega (arith, there .enough)
 
-poke-requires : tie.Need-poke-requires
-poke-requires c κs = search needs
-
-advance-requires : tie.Need-advance-requires
-advance-requires c κs = search needs
-
-same-length-2 : tie.Need-same-length-2
-same-length-2 c = search needs
-
 returns-2 : tie.Need-returns-2
 returns-2 c n = rw (c .stop .ensures) (faults _ n _ _ _ (finalize-is _ n _ ∙ stops _ _ _ _ _ _ _ _ (c .before .before .before .before .a-thread .ensures ∙ ap threadNamed (c .before .before .number .given .1))))
-
-same-length-3 : tie.Need-same-length-3
-same-length-3 c = search needs
 
 returns-3 : tie.Need-returns-3
 returns-3 c n =
@@ -66,19 +36,19 @@ pub finalize-spec : {M : Type 1} → statement M
 finalize-spec =
     tie.close
     (tie.spec
-    a-thread-requires
-    enum-known-number
-    stop-requires
-    enum-known-t
+    (λ c κs. search needs)
+    (λ c. search needs)
+    (λ c κs. search needs)
+    (λ c. search needs)
     has-ended-requires
-    stop-requires-2
-    same-length
+    (λ c κs. search needs)
+    (λ c. search needs)
     returns
     result-requires
     sub-poke
-    poke-requires
-    advance-requires
-    same-length-2
+    (λ c κs. search needs)
+    (λ c κs. search needs)
+    (λ c. search needs)
     returns-2
-    same-length-3
+    (λ c. search needs)
     returns-3)

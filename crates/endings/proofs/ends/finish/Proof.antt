@@ -6,30 +6,6 @@ use Rattle.machine.specs.State.{finished, next}
 use Rattle.endings.proofs.ends.finish.Statement.{statement}
 use Rattle.endings.proofs.ends.finish.Tie as tie
 
-set-result-requires : tie.Need-set-result-requires
-set-result-requires c κs = search needs
-
-at-end-requires : tie.Need-at-end-requires
-at-end-requires c κs = search needs
-
-wake-all-requires : tie.Need-wake-all-requires
-wake-all-requires c κs = search needs
-
-send-requires : tie.Need-send-requires
-send-requires c κs = search needs
-
-with-state-requires : tie.Need-with-state-requires
-with-state-requires c κs = search needs
-
-next-requires : tie.Need-next-requires
-next-requires c κs = search needs
-
-same-length : tie.Need-same-length
-same-length c = search needs
-
-same-length-2 : tie.Need-same-length-2
-same-length-2 c = search needs
-
 returns : tie.Need-returns
 unfolding finished
 returns c store =
@@ -40,12 +16,12 @@ pub finish-spec : {M : Type 1} → statement M
 finish-spec =
     tie.close
     (tie.spec
-    set-result-requires
-    at-end-requires
-    wake-all-requires
-    send-requires
-    with-state-requires
-    next-requires
-    same-length
-    same-length-2
+    (λ c κs. search needs)
+    (λ c κs. search needs)
+    (λ c κs. search needs)
+    (λ c κs. search needs)
+    (λ c κs. search needs)
+    (λ c κs. search needs)
+    (λ c. search needs)
+    (λ c. search needs)
     returns)

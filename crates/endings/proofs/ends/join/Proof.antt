@@ -9,34 +9,13 @@ use Rattle.threads.specs.Contract.{threadNamed}
 use Rattle.endings.proofs.ends.join.Statement.{statement}
 use Rattle.endings.proofs.ends.join.Tie as tie
 
-a-thread-requires : tie.Need-a-thread-requires
-a-thread-requires c κs = search needs
-
-enum-known-number : tie.Need-enum-known-number
-enum-known-number c = search needs
-
-stop-requires : tie.Need-stop-requires
-stop-requires c κs = search needs
-
-enum-known-t : tie.Need-enum-known-t
-enum-known-t c = search needs
-
 has-ended-requires : tie.Need-has-ended-requires
 has-ended-requires c κs = let there = passed _ _ _ _ _ _ _ (c .before .before .before .before .a-thread .ensures ∙ ap threadNamed (c .before .before .t .given .1)) in (omega (arith, c .before .before .before .before .before .before .pre .1 .0 .long), omega (arith, there .below, c .before .before .before .before .before .before .pre .1 .1 .threads))
-
-advance-requires : tie.Need-advance-requires
-advance-requires c κs = search needs
-
-same-length : tie.Need-same-length
-same-length c = search needs
 
 returns : tie.Need-returns
 returns c n values =
     rw (c .advance .ensures)
     (carries _ n _ _ _ (join-is _ n _ ∙ goes-on _ _ _ _ _ _ _ _ (c .before .before .before .before .before .before .before .a-thread .ensures ∙ ap threadNamed (c .before .before .before .before .before .t .given .1)) ∙ rw (sym (c .before .before .has-ended .ensures) ∙ c .before .if1 .taken)))
-
-advance-requires-2 : tie.Need-advance-requires-2
-advance-requires-2 c κs = search needs
 
 at-end-requires : tie.Need-at-end-requires
 at-end-requires c κs = let there = passed _ _ _ _ _ _ _ (c .before .before .before .before .before .before .before .before .a-thread .ensures ∙ ap threadNamed (c .before .before .before .before .before .before .t .given .1)) in (c .before .before .before .before .before .before .before .before .before .before .pre .0 .small, omega (arith, there .below, c .before .before .before .before .before .before .before .before .before .before .pre .1 .1 .threads))
@@ -47,9 +26,6 @@ block-requires c κs = rw (c .before .advance2 .ensures) (c .before .before .bef
 returns-2 : tie.Need-returns-2
 returns-2 c n values = rw (c .stop .ensures) (faults _ n _ _ _ (join-is _ n _ ∙ stops _ _ _ _ _ _ _ _ (c .before .before .before .before .a-thread .ensures ∙ ap threadNamed (c .before .before .number .given .1))))
 
-same-length-2 : tie.Need-same-length-2
-same-length-2 c = search needs
-
 returns-3 : tie.Need-returns-3
 returns-3 c n values =
     rw (c .before .before .before .before .advance2 .ensures, c .before .before .before .at-end .ensures) at (c .before .before .block .ensures .is (now (c .before .before .before .before .before .before .before .before .before .before .before .before .before .before .args .store)) values)
@@ -59,17 +35,17 @@ pub join-spec : {M : Type 1} → statement M
 join-spec =
     tie.close
     (tie.spec
-    a-thread-requires
-    enum-known-number
-    stop-requires
-    enum-known-t
+    (λ c κs. search needs)
+    (λ c. search needs)
+    (λ c κs. search needs)
+    (λ c. search needs)
     has-ended-requires
-    advance-requires
-    same-length
+    (λ c κs. search needs)
+    (λ c. search needs)
     returns
-    advance-requires-2
+    (λ c κs. search needs)
     at-end-requires
     block-requires
     returns-2
-    same-length-2
+    (λ c. search needs)
     returns-3)

@@ -14,12 +14,6 @@ use Rattle.endings.proofs.returns.in_first_frame.Tie as tie
 returns : tie.Need-returns
 returns c = record { holds = λ e. absurd (let z : _≡_ {A = ℕ} 0 1 = cc in omega arith); fails = λ e first. omega (arith, c .if1 .taken, first .0) }
 
-sub-peek : tie.Need-sub-peek
-sub-peek c = search needs
-
-peek-requires : tie.Need-peek-requires
-peek-requires c κs = search needs
-
 returns-2 : tie.Need-returns-2
 returns-2 c =
     record {
@@ -28,4 +22,8 @@ returns-2 c =
     }
 
 pub in-first-frame-spec : {M : Type 1} → statement M
-in-first-frame-spec = tie.close (tie.spec returns sub-peek peek-requires returns-2)
+in-first-frame-spec = tie.close (tie.spec
+    returns
+    (λ c. search needs)
+    (λ c κs. search needs)
+    returns-2)

@@ -11,41 +11,14 @@ use borrow.Author.Needs.{needs, sfits-of}
 use Rattle.endings.proofs.returns.return_from.Statement.{statement}
 use Rattle.endings.proofs.returns.return_from.Tie as tie
 
-in-first-frame-requires : tie.Need-in-first-frame-requires
-in-first-frame-requires c κs = search needs
-
-owns-any-requires : tie.Need-owns-any-requires
-owns-any-requires c κs = search needs
-
-stop-requires : tie.Need-stop-requires
-stop-requires c κs = search needs
-
-same-length : tie.Need-same-length
-same-length c = search needs
-
 returns : tie.Need-returns
 returns c =
     let first = c .before .before .before .before .before .in-first-frame .ensures .holds (c .before .before .before .before .if1 .taken) in
     rw (c .stop .ensures)
     (faults _ _ _ _ 31 (return-is _ _ _ ∙ has-frame _ _ _ (first .0) ∙ frame-ended _ _ _ _ (first .1) ∙ ending-owned _ _ _ (sym (c .before .before .owns-any .ensures) ∙ c .before .if2 .taken)))
 
-sub-peek : tie.Need-sub-peek
-sub-peek c = search needs
-
-peek-requires : tie.Need-peek-requires
-peek-requires c κs = search needs
-
-advance-requires : tie.Need-advance-requires
-advance-requires c κs = search needs
-
 finish-requires : tie.Need-finish-requires
 finish-requires c κs = rw (c .advance .ensures) (c .before .before .before .before .before .before .before .before .before .before .before .pre .1 .0, (c .before .before .before .before .before .before .before .before .before .before .before .pre .1 .1, c .before .before .before .before .before .before .before .before .before .before .before .pre .0 .thread))
-
-same-length-2 : tie.Need-same-length-2
-same-length-2 c = search needs
-
-same-length-3 : tie.Need-same-length-3
-same-length-3 c = search needs
 
 returns-2 : tie.Need-returns-2
 returns-2 c =
@@ -53,14 +26,8 @@ returns-2 c =
     rw (c .before .before .before .before .advance .ensures, toZ-ofZ (sfits-of {w = w32} {z = c .before .before .before .before .before .before .before .peek .result} (c .before .before .before .before .before .before .before .peek .ok)), c .before .before .before .before .before .before .before .peek .ensures) at (c .before .before .before .finish .ensures (now (c .before .before .before .before .before .before .before .before .before .before .before .before .before .before .before .args .store)))
     ∙ carries _ _ _ _ _ (return-is _ _ _ ∙ has-frame _ _ _ (first .0) ∙ frame-ended _ _ _ _ (first .1) ∙ ending-free _ _ _ (sym (c .before .before .before .before .before .before .before .before .before .before .owns-any .ensures) ∙ c .before .before .before .before .before .before .before .before .before .if2 .left))
 
-past-requires : tie.Need-past-requires
-past-requires c κs = search needs
-
 back-requires : tie.Need-back-requires
 back-requires c κs = rw (c .past .ensures) (fit (c .before .before .before .before .pre .0))
-
-settled-requires : tie.Need-settled-requires
-settled-requires c κs = search needs
 
 returns-3 : tie.Need-returns-3
 returns-3 c =
@@ -70,19 +37,19 @@ pub return-from-spec : {M : Type 1} → statement M
 return-from-spec =
     tie.close
     (tie.spec
-    in-first-frame-requires
-    owns-any-requires
-    stop-requires
-    same-length
+    (λ c κs. search needs)
+    (λ c κs. search needs)
+    (λ c κs. search needs)
+    (λ c. search needs)
     returns
-    sub-peek
-    peek-requires
-    advance-requires
+    (λ c. search needs)
+    (λ c κs. search needs)
+    (λ c κs. search needs)
     finish-requires
-    same-length-2
-    same-length-3
+    (λ c. search needs)
+    (λ c. search needs)
     returns-2
-    past-requires
+    (λ c κs. search needs)
     back-requires
-    settled-requires
+    (λ c κs. search needs)
     returns-3)

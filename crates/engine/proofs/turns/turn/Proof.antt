@@ -3,7 +3,7 @@ use mathlib.Core.Logic.{_⊎_, inl, inr}
 use mathlib.Core.Path.{_≡_}
 use Prim.Native.Nat.{ℕ}
 use mathlib.Core.Logic.{_≢_}
-use Rattle.engine.specs.Contract.{Turning}
+use Rattle.dispatch.specs.Contract.{Turning}
 use Rattle.machine.specs.Instructions.{instructionOf}
 use borrow.Author.Needs.{needs}
 use Rattle.engine.proofs.turns.turn.Statement.{statement}

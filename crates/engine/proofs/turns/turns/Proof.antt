@@ -52,7 +52,7 @@ returns-2 c =
     rw (c .before .before .before .before .switch .ensures)
     (record {
       under = joined (given .0) (given .1 .0) (c .before .before .before .before .before .before .before .before .before .before .before .before .before .before .pre .1 .1 .1 .1) (c .before .before .before .before .before .before .before .before .before .stretch .ensures) (c .before .before .before .before .before .before .loop .inv .under);
-      ends = λ some runs below. sorted .others (not-true _ (c .if2 .taken));
+      ends = λ some runs below. sorted .fails (not-true _ (c .if2 .taken));
     })
 
 first-living-requires : tie.Need-first-living-requires Inv-loop μ-loop
@@ -63,7 +63,7 @@ turn-requires c κs =
     let w = works (c .before .before .before .before .before .before .before .before .before .before .before .before .before .before .before .before .before .before .pre .0) (c .before .before .before .before .before .before .before .before .before .before .loop .inv) (c .before .before .before .before .before .before .before .before .before .before .before .before .before .before .before .before .before .before .pre .1 .1 .1 .1) (c .before .before .before .before .before .before .before .before .before .before .before .before .before .before .before .before .before .before .pre .1 .1 .0) (c .before .before .before .before .before .before .before .if1 .left) in
     let alive = live (c .before .before .before .before .before .before .before .before .before .before .before .before .before .before .before .before .before .before .pre .0) (c .before .before .before .before .before .before .before .before .before .before .loop .inv) (c .before .before .before .before .before .before .before .before .before .before .before .before .before .before .before .before .before .before .pre .1 .1 .1 .1) (c .before .before .before .before .before .before .before .before .before .before .before .before .before .before .before .before .before .before .pre .1 .1 .0) (c .before .before .before .before .before .before .before .if1 .left) in
     rw (c .before .before .before .before .before .before .before .before .switch .ensures)
-    (w .able, (w .good, (w .made, (c .before .before .before .before .before .is-turn .ensures .turning (not-false _ (c .before .before .before .before .if2 .left)), (c .before .before .first-living .ensures, idle-after (tablesOf (c .before .before .before .before .before .before .before .before .before .before .before .before .before .before .before .before .before .before .args .size) (c .before .before .before .before .before .before .before .before .before .before .loop .tables)) (c .before .before .before .before .before .before .before .before .before .before .loop .thread) alive (c .before .before .first-living .result) (c .before .before .first-living .ensures))))))
+    (w .able, (w .good, (w .made, (c .before .before .before .before .before .is-turn .ensures .holds (not-false _ (c .before .before .before .before .if2 .left)), (c .before .before .first-living .ensures, idle-after (tablesOf (c .before .before .before .before .before .before .before .before .before .before .before .before .before .before .before .before .before .before .args .size) (c .before .before .before .before .before .before .before .before .before .before .loop .tables)) (c .before .before .before .before .before .before .before .before .before .before .loop .thread) alive (c .before .before .first-living .result) (c .before .before .first-living .ensures))))))
 
 same-length-5 : tie.Need-same-length-5 Inv-loop μ-loop
 same-length-5 c = c .before .before .before .before .before .before .before .before .before .before .before .before .before .before .before .loop .inv .store-long ∙ c .before .before .before .before .before .before .before .before .before .before .before .before .before .before .before .before .before .before .stretch .kept .1 .0
@@ -78,7 +78,7 @@ returns-3 c =
     record {
       under =
           joined (given .0) (given .1 .0) (c .before .before .before .before .before .before .before .before .before .before .before .before .before .before .before .before .before .before .before .before .before .before .before .pre .1 .1 .1 .1) (c .before .before .before .before .before .before .before .before .before .before .before .before .before .before .before .before .before .before .stretch .ensures)
-          (turn-faults (c .before .before .before .before .before .before .before .before .before .before .before .before .before .before .before .before .before .before .before .before .before .before .before .pre .0) (c .before .before .before .before .before .before .before .before .before .before .before .before .before .before .before .loop .inv) (c .before .before .before .before .before .before .before .before .before .before .before .before .before .before .before .before .before .before .before .before .before .before .before .pre .1 .1 .1 .1) (c .before .before .before .before .before .before .before .before .before .before .before .before .before .before .before .before .before .before .before .before .before .before .before .pre .1 .1 .0) (c .before .before .before .before .before .before .before .before .before .before .before .before .if1 .left) (omega (arith, c .before .before .before .before .before .before .before .before .before .before .before .before .before .before .loop-test .taken)) (sorted .turning (not-false _ (c .before .before .before .before .before .before .before .before .before .if2 .left))) _ _ (c .before .before .before .before .turn .kept .1 .0) (rw (c .before .before .before .before .before .before .before .before .before .before .before .before .before .switch .ensures, c .before .before .before .before .before .before .before .before .before .before .before .fetch .ensures) at (c .before .before .before .before .turn .ensures)) (c .if3 .taken));
+          (turn-faults (c .before .before .before .before .before .before .before .before .before .before .before .before .before .before .before .before .before .before .before .before .before .before .before .pre .0) (c .before .before .before .before .before .before .before .before .before .before .before .before .before .before .before .loop .inv) (c .before .before .before .before .before .before .before .before .before .before .before .before .before .before .before .before .before .before .before .before .before .before .before .pre .1 .1 .1 .1) (c .before .before .before .before .before .before .before .before .before .before .before .before .before .before .before .before .before .before .before .before .before .before .before .pre .1 .1 .0) (c .before .before .before .before .before .before .before .before .before .before .before .before .if1 .left) (omega (arith, c .before .before .before .before .before .before .before .before .before .before .before .before .before .before .loop-test .taken)) (sorted .holds (not-false _ (c .before .before .before .before .before .before .before .before .before .if2 .left))) _ _ (c .before .before .before .before .turn .kept .1 .0) (rw (c .before .before .before .before .before .before .before .before .before .before .before .before .before .switch .ensures, c .before .before .before .before .before .before .before .before .before .before .before .fetch .ensures) at (c .before .before .before .before .turn .ensures)) (c .if3 .taken));
       ends = λ some runs below. absurd (omega (arith, c .if3 .taken, runs));
     }
 
@@ -95,7 +95,7 @@ returns-4 c =
     record {
       under =
           joined (given .0) (given .1 .0) (c .before .before .before .before .before .before .before .before .before .before .before .before .before .before .before .before .before .before .before .before .before .before .before .before .before .pre .1 .1 .1 .1) (c .before .before .before .before .before .before .before .before .before .before .before .before .before .before .before .before .before .before .before .before .stretch .ensures)
-          (turn-done (c .before .before .before .before .before .before .before .before .before .before .before .before .before .before .before .before .before .before .before .before .before .before .before .before .before .pre .0) (c .before .before .before .before .before .before .before .before .before .before .before .before .before .before .before .before .before .loop .inv) (c .before .before .before .before .before .before .before .before .before .before .before .before .before .before .before .before .before .before .before .before .before .before .before .before .before .pre .1 .1 .1 .1) (c .before .before .before .before .before .before .before .before .before .before .before .before .before .before .before .before .before .before .before .before .before .before .before .before .before .pre .1 .1 .0) (c .before .before .before .before .before .before .before .before .before .before .before .before .before .before .if1 .left) (omega (arith, c .before .before .before .before .before .before .before .before .before .before .before .before .before .before .before .before .loop-test .taken)) (sorted .turning (not-false _ (c .before .before .before .before .before .before .before .before .before .before .before .if2 .left))) _ _ (c .before .before .before .before .before .before .turn .kept .1 .0) (rw (c .before .before .before .before .before .before .before .before .before .before .before .before .before .before .before .switch .ensures, c .before .before .before .before .before .before .before .before .before .before .before .before .before .fetch .ensures) at (c .before .before .before .before .before .before .turn .ensures)) (c .before .before .if3 .left));
+          (turn-done (c .before .before .before .before .before .before .before .before .before .before .before .before .before .before .before .before .before .before .before .before .before .before .before .before .before .pre .0) (c .before .before .before .before .before .before .before .before .before .before .before .before .before .before .before .before .before .loop .inv) (c .before .before .before .before .before .before .before .before .before .before .before .before .before .before .before .before .before .before .before .before .before .before .before .before .before .pre .1 .1 .1 .1) (c .before .before .before .before .before .before .before .before .before .before .before .before .before .before .before .before .before .before .before .before .before .before .before .before .before .pre .1 .1 .0) (c .before .before .before .before .before .before .before .before .before .before .before .before .before .before .if1 .left) (omega (arith, c .before .before .before .before .before .before .before .before .before .before .before .before .before .before .before .before .loop-test .taken)) (sorted .holds (not-false _ (c .before .before .before .before .before .before .before .before .before .before .before .if2 .left))) _ _ (c .before .before .before .before .before .before .turn .kept .1 .0) (rw (c .before .before .before .before .before .before .before .before .before .before .before .before .before .before .before .switch .ensures, c .before .before .before .before .before .before .before .before .before .before .before .before .before .fetch .ensures) at (c .before .before .before .before .before .before .turn .ensures)) (c .before .before .if3 .left));
       ends = λ some runs below. absurd (c .if4 .taken runs);
     }
 
@@ -103,19 +103,19 @@ stretch-requires-2 : tie.Need-stretch-requires-2 Inv-loop μ-loop
 stretch-requires-2 c κs =
     let sorted = rw (c .before .before .before .before .before .before .before .before .before .before .before .before .before .before .fetch .ensures) at (c .before .before .before .before .before .before .before .before .before .before .before .before .before .is-turn .ensures) in (
       record { code = _; n = _; card = c .before .before .before .before .before .before .before .before .before .before .before .before .before .before .before .before .before .before .before .before .before .before .before .before .before .before .pre .0; unpacked = c .before .before .before .before .before .before .before .before .before .before .before .before .before .before .before .before .before .before .before .before .before .before .before .before .before .before .pre .1 .0 },
-      (c .before .before .before .before .before .before .before .before .before .before .before .before .before .before .before .before .before .before .before .before .before .before .before .before .before .before .pre .1 .1 .0, houses (c .before .before .before .before .before .before .before .before .before .before .before .before .before .before .before .before .before .before .before .before .before .before .before .before .before .before .pre .0) (c .before .before .before .before .before .before .before .before .before .before .before .before .before .before .before .before .before .before .loop .inv) (c .before .before .before .before .before .before .before .before .before .before .before .before .before .before .before .before .before .before .before .before .before .before .before .before .before .before .pre .1 .1 .1 .1) (c .before .before .before .before .before .before .before .before .before .before .before .before .before .before .before .before .before .before .before .before .before .before .before .before .before .before .pre .1 .1 .0) (c .before .before .before .before .before .before .before .before .before .before .before .before .before .before .before .if1 .left) (omega (arith, c .before .before .before .before .before .before .before .before .before .before .before .before .before .before .before .before .before .loop-test .taken)) (sorted .turning (not-false _ (c .before .before .before .before .before .before .before .before .before .before .before .before .if2 .left))) _ _ (c .before .before .before .before .before .before .before .turn .kept .1 .0) (rw (c .before .before .before .before .before .before .before .before .before .before .before .before .before .before .before .before .switch .ensures, c .before .before .before .before .before .before .before .before .before .before .before .before .before .before .fetch .ensures) at (c .before .before .before .before .before .before .before .turn .ensures)) (c .before .if4 .left)),
+      (c .before .before .before .before .before .before .before .before .before .before .before .before .before .before .before .before .before .before .before .before .before .before .before .before .before .before .pre .1 .1 .0, houses (c .before .before .before .before .before .before .before .before .before .before .before .before .before .before .before .before .before .before .before .before .before .before .before .before .before .before .pre .0) (c .before .before .before .before .before .before .before .before .before .before .before .before .before .before .before .before .before .before .loop .inv) (c .before .before .before .before .before .before .before .before .before .before .before .before .before .before .before .before .before .before .before .before .before .before .before .before .before .before .pre .1 .1 .1 .1) (c .before .before .before .before .before .before .before .before .before .before .before .before .before .before .before .before .before .before .before .before .before .before .before .before .before .before .pre .1 .1 .0) (c .before .before .before .before .before .before .before .before .before .before .before .before .before .before .before .if1 .left) (omega (arith, c .before .before .before .before .before .before .before .before .before .before .before .before .before .before .before .before .before .loop-test .taken)) (sorted .holds (not-false _ (c .before .before .before .before .before .before .before .before .before .before .before .before .if2 .left))) _ _ (c .before .before .before .before .before .before .before .turn .kept .1 .0) (rw (c .before .before .before .before .before .before .before .before .before .before .before .before .before .before .before .before .switch .ensures, c .before .before .before .before .before .before .before .before .before .before .before .before .before .before .fetch .ensures) at (c .before .before .before .before .before .before .before .turn .ensures)) (c .before .if4 .left)),
     )
 
 loop-less : tie.Need-loop-less Inv-loop μ-loop
 loop-less c =
     let sorted = rw (c .before .before .before .before .before .before .before .before .before .before .before .before .before .before .before .before .before .fetch .ensures) at (c .before .before .before .before .before .before .before .before .before .before .before .before .before .before .before .before .is-turn .ensures) in
-    let house = houses (c .before .before .before .before .before .before .before .before .before .before .before .before .before .before .before .before .before .before .before .before .before .before .before .before .before .before .before .before .before .pre .0) (c .before .before .before .before .before .before .before .before .before .before .before .before .before .before .before .before .before .before .before .before .before .loop .inv) (c .before .before .before .before .before .before .before .before .before .before .before .before .before .before .before .before .before .before .before .before .before .before .before .before .before .before .before .before .before .pre .1 .1 .1 .1) (c .before .before .before .before .before .before .before .before .before .before .before .before .before .before .before .before .before .before .before .before .before .before .before .before .before .before .before .before .before .pre .1 .1 .0) (c .before .before .before .before .before .before .before .before .before .before .before .before .before .before .before .before .before .before .if1 .left) (omega (arith, c .before .before .before .before .before .before .before .before .before .before .before .before .before .before .before .before .before .before .before .before .loop-test .taken)) (sorted .turning (not-false _ (c .before .before .before .before .before .before .before .before .before .before .before .before .before .before .before .if2 .left))) _ _ (c .before .before .before .before .before .before .before .before .before .before .turn .kept .1 .0) (rw (c .before .before .before .before .before .before .before .before .before .before .before .before .before .before .before .before .before .before .before .switch .ensures, c .before .before .before .before .before .before .before .before .before .before .before .before .before .before .before .before .before .fetch .ensures) at (c .before .before .before .before .before .before .before .before .before .before .turn .ensures)) (c .before .before .before .before .if4 .left) in
+    let house = houses (c .before .before .before .before .before .before .before .before .before .before .before .before .before .before .before .before .before .before .before .before .before .before .before .before .before .before .before .before .before .pre .0) (c .before .before .before .before .before .before .before .before .before .before .before .before .before .before .before .before .before .before .before .before .before .loop .inv) (c .before .before .before .before .before .before .before .before .before .before .before .before .before .before .before .before .before .before .before .before .before .before .before .before .before .before .before .before .before .pre .1 .1 .1 .1) (c .before .before .before .before .before .before .before .before .before .before .before .before .before .before .before .before .before .before .before .before .before .before .before .before .before .before .before .before .before .pre .1 .1 .0) (c .before .before .before .before .before .before .before .before .before .before .before .before .before .before .before .before .before .before .if1 .left) (omega (arith, c .before .before .before .before .before .before .before .before .before .before .before .before .before .before .before .before .before .before .before .before .loop-test .taken)) (sorted .holds (not-false _ (c .before .before .before .before .before .before .before .before .before .before .before .before .before .before .before .if2 .left))) _ _ (c .before .before .before .before .before .before .before .before .before .before .turn .kept .1 .0) (rw (c .before .before .before .before .before .before .before .before .before .before .before .before .before .before .before .before .before .before .before .switch .ensures, c .before .before .before .before .before .before .before .before .before .before .before .before .before .before .before .before .before .fetch .ensures) at (c .before .before .before .before .before .before .before .before .before .before .turn .ensures)) (c .before .before .before .before .if4 .left) in
     omega (arith, c .before .before .before .before .before .before .before .before .before .before .before .before .before .before .before .before .before .before .before .before .loop-test .taken, c .before .before .stretch2 .ensures _ _ (c .before .before .before .before .before .before .before .before .before .before .before .before .before .before .before .before .before .before .before .before .before .before .before .before .before .before .before .before .before .pre .0) (c .before .before .before .before .before .before .before .before .before .before .before .before .before .before .before .before .before .before .before .before .before .before .before .before .before .before .before .before .before .pre .1 .0) (house .tables) (house .values) (house .r) (house .runs) (house .sound) .within)
 
 loop-again : tie.Need-loop-again Inv-loop μ-loop
 loop-again c =
     let sorted = rw (c .before .before .before .before .before .before .before .before .before .before .before .before .before .before .before .before .before .fetch .ensures) at (c .before .before .before .before .before .before .before .before .before .before .before .before .before .before .before .before .is-turn .ensures) in
-    among-more (c .before .before .before .before .before .before .before .before .before .before .before .before .before .before .before .before .before .before .before .before .before .before .before .before .before .before .before .before .before .pre .0) (c .before .before .before .before .before .before .before .before .before .before .before .before .before .before .before .before .before .before .before .before .before .loop .inv) (c .before .before .before .before .before .before .before .before .before .before .before .before .before .before .before .before .before .before .before .before .before .before .before .before .before .before .before .before .before .pre .1 .1 .1 .1) (c .before .before .before .before .before .before .before .before .before .before .before .before .before .before .before .before .before .before .before .before .before .before .before .before .before .before .before .before .before .pre .1 .1 .0) (c .before .before .before .before .before .before .before .before .before .before .before .before .before .before .before .before .before .before .if1 .left) (omega (arith, c .before .before .before .before .before .before .before .before .before .before .before .before .before .before .before .before .before .before .before .before .loop-test .taken)) (sorted .turning (not-false _ (c .before .before .before .before .before .before .before .before .before .before .before .before .before .before .before .if2 .left))) _ _ (c .before .before .before .before .before .before .before .before .before .before .turn .kept .1 .0) (rw (c .before .before .before .before .before .before .before .before .before .before .before .before .before .before .before .before .before .before .before .switch .ensures, c .before .before .before .before .before .before .before .before .before .before .before .before .before .before .before .before .before .fetch .ensures) at (c .before .before .before .before .before .before .before .before .before .before .turn .ensures)) (c .before .before .before .before .if4 .left) (c .before .before .before .before .before .before .before .before .before .before .before .before .before .before .before .before .before .before .before .before .before .before .before .before .before .before .before .before .before .pre .1 .0) (c .before .before .stretch2 .kept .1 .0) (c .before .before .before .before .before .before .before .before .before .before .before .before .before .first-living .ensures) (c .before .before .stretch2 .ensures)
+    among-more (c .before .before .before .before .before .before .before .before .before .before .before .before .before .before .before .before .before .before .before .before .before .before .before .before .before .before .before .before .before .pre .0) (c .before .before .before .before .before .before .before .before .before .before .before .before .before .before .before .before .before .before .before .before .before .loop .inv) (c .before .before .before .before .before .before .before .before .before .before .before .before .before .before .before .before .before .before .before .before .before .before .before .before .before .before .before .before .before .pre .1 .1 .1 .1) (c .before .before .before .before .before .before .before .before .before .before .before .before .before .before .before .before .before .before .before .before .before .before .before .before .before .before .before .before .before .pre .1 .1 .0) (c .before .before .before .before .before .before .before .before .before .before .before .before .before .before .before .before .before .before .if1 .left) (omega (arith, c .before .before .before .before .before .before .before .before .before .before .before .before .before .before .before .before .before .before .before .before .loop-test .taken)) (sorted .holds (not-false _ (c .before .before .before .before .before .before .before .before .before .before .before .before .before .before .before .if2 .left))) _ _ (c .before .before .before .before .before .before .before .before .before .before .turn .kept .1 .0) (rw (c .before .before .before .before .before .before .before .before .before .before .before .before .before .before .before .before .before .before .before .switch .ensures, c .before .before .before .before .before .before .before .before .before .before .before .before .before .before .before .before .before .fetch .ensures) at (c .before .before .before .before .before .before .before .before .before .before .turn .ensures)) (c .before .before .before .before .if4 .left) (c .before .before .before .before .before .before .before .before .before .before .before .before .before .before .before .before .before .before .before .before .before .before .before .before .before .before .before .before .before .pre .1 .0) (c .before .before .stretch2 .kept .1 .0) (c .before .before .before .before .before .before .before .before .before .before .before .before .before .first-living .ensures) (c .before .before .stretch2 .ensures)
 
 returns-5 : tie.Need-returns-5 Inv-loop μ-loop
 returns-5 c =
