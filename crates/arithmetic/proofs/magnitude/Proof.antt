@@ -47,9 +47,13 @@ returns c =
     let f = c .before .fits .a in
     rw (computed f) (opposite (c .before .args .a) (rw (toZ-ofZ f) at (c .if1 .taken)) .1)
 
-returns-2 : tie.Need-returns-2
-returns-2 c = search needs
-
 pub magnitude-spec : {M : Type 1} → statement M
 magnitude-spec =
-    tie.close (tie.spec cast-result sub-result cast-result-2 cast-result-3 returns returns-2)
+    tie.close
+    (tie.spec
+    cast-result
+    sub-result
+    cast-result-2
+    cast-result-3
+    returns
+    (λ c. search needs))

@@ -9,9 +9,6 @@ use Rattle.arithmetic.proofs.Wide.{cast-fits, widened-is}
 use Rattle.arithmetic.proofs.quotient.Statement.{statement}
 use Rattle.arithmetic.proofs.quotient.Tie as tie
 
-negated-requires : tie.Need-negated-requires
-negated-requires c κs = search needs
-
 returns : tie.Need-returns
 returns c =
     let f = c .before .before .fits in
@@ -31,4 +28,9 @@ returns-2 : tie.Need-returns-2
 returns-2 c = widened-is (div-result c .1) ∙ (rw (toZ-ofZ (c .before .fits .a), toZ-ofZ (c .before .fits .b)))
 
 pub quotient-spec : {M : Type 1} → statement M
-quotient-spec = tie.close (tie.spec negated-requires returns div-result cast-result returns-2)
+quotient-spec = tie.close (tie.spec
+    (λ c κs. search needs)
+    returns
+    div-result
+    cast-result
+    returns-2)

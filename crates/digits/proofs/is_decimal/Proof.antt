@@ -8,18 +8,18 @@ use Rattle.digits.proofs.is_decimal.Tie as tie
 returns : tie.Need-returns
 returns c = no-decimal _ (c .if1 .taken)
 
-shared-slice-read-if2 : tie.Need-shared-slice-read-if2
-shared-slice-read-if2 c = search needs
-
 returns-2 : tie.Need-returns-2
 returns-2 c = zero-alone _ (c .before .before .if1 .left) (c .if2 .taken)
-
-all-digits-requires : tie.Need-all-digits-requires
-all-digits-requires c κs = search needs
 
 returns-3 : tie.Need-returns-3
 returns-3 c = c .all-digits .ensures ∙ from-other _ (c .before .before .before .if1 .left) (c .before .if2 .left)
 
 pub is-decimal-spec : {M : Type 1} → statement M
 is-decimal-spec =
-    tie.close (tie.spec returns shared-slice-read-if2 returns-2 all-digits-requires returns-3)
+    tie.close
+    (tie.spec
+    returns
+    (λ c. search needs)
+    returns-2
+    (λ c κs. search needs)
+    returns-3)

@@ -6,17 +6,8 @@ use Rattle.digits.proofs.Undone.{digit}
 use Rattle.digits.proofs.longer.Statement.{statement}
 use Rattle.digits.proofs.longer.Tie as tie
 
-mul-m : tie.Need-mul-m
-mul-m c = search needs
-
 sub-m : tie.Need-sub-m
 sub-m c = omega (arith, digit (c .args .b) (c .pre .1) .least)
-
-cast-m : tie.Need-cast-m
-cast-m c = search needs
-
-add-m : tie.Need-add-m
-add-m c = search needs
 
 returns : tie.Need-returns
 returns c = (rw (lt-ltb _ _ (c .if1 .taken)), omega (arith, c .if1 .taken))
@@ -25,4 +16,10 @@ returns-2 : tie.Need-returns-2
 returns-2 c = (rw (le-ltb _ _ (c .if1 .left)), omega arith)
 
 pub longer-spec : {M : Type 1} → statement M
-longer-spec = tie.close (tie.spec mul-m sub-m cast-m add-m returns returns-2)
+longer-spec = tie.close (tie.spec
+    (λ c. search needs)
+    sub-m
+    (λ c. search needs)
+    (λ c. search needs)
+    returns
+    returns-2)

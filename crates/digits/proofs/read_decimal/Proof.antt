@@ -6,9 +6,6 @@ use Rattle.digits.proofs.Undone.{all-of}
 use Rattle.digits.proofs.read_decimal.Statement.{statement}
 use Rattle.digits.proofs.read_decimal.Tie as tie
 
-is-decimal-requires : tie.Need-is-decimal-requires
-is-decimal-requires c κs = search needs
-
 returns : tie.Need-returns
 returns c = rw (sym (c .before .is-decimal .ensures) ∙ not-true (c .before .is-decimal .result) (c .if1 .taken))
 
@@ -19,4 +16,8 @@ returns-2 : tie.Need-returns-2
 returns-2 c = rw (sym (c .before .before .is-decimal .ensures) ∙ not-false (c .before .before .is-decimal .result) (c .before .if1 .left), c .value .ensures)
 
 pub read-decimal-spec : {M : Type 1} → statement M
-read-decimal-spec = tie.close (tie.spec is-decimal-requires returns value-requires returns-2)
+read-decimal-spec = tie.close (tie.spec
+    (λ c κs. search needs)
+    returns
+    value-requires
+    returns-2)

@@ -19,17 +19,8 @@ abbrev μ-loop : tie.MeasureT-loop
 loop-holds : tie.Need-loop-holds Inv-loop μ-loop
 loop-holds c = (refl, omega arith, c .before .pre)
 
-shared-slice-read-longer : tie.Need-shared-slice-read-longer Inv-loop μ-loop
-shared-slice-read-longer c = search needs
-
 longer-requires : tie.Need-longer-requires Inv-loop μ-loop
 longer-requires c κs = (c .before .before .loop .inv .1, of-digits _ _ (c .before .loop-test .taken) (c .before .before .loop .inv .2) .0)
-
-add-i : tie.Need-add-i Inv-loop μ-loop
-add-i c = search needs
-
-loop-less : tie.Need-loop-less Inv-loop μ-loop
-loop-less c = search needs
 
 loop-again : tie.Need-loop-again Inv-loop μ-loop
 loop-again c = (c .before .before .before .loop .inv .0 ∙ value-on _ _ _ _ (c .before .before .loop-test .taken) (c .longer .ensures .0), c .longer .ensures .1, of-digits _ _ (c .before .before .loop-test .taken) (c .before .before .before .loop .inv .2) .1)
@@ -44,9 +35,9 @@ value-spec =
     Inv-loop
     μ-loop
     loop-holds
-    shared-slice-read-longer
+    (λ c. search needs)
     longer-requires
-    add-i
-    loop-less
+    (λ c. search needs)
+    (λ c. search needs)
     loop-again
     returns)

@@ -23,18 +23,6 @@ answered c =
     rw (← (c .before .before .rule-of .ensures), ← (c .before .operand .ensures))
     (rw (toZ-ofZ (c .before .before .before .before .fits .last), toZ-ofZ (sfits-of {w = w32} {z = c .before .operand .result} (c .before .operand .ok))) at (c .permits .ensures))
 
-opcode-requires : tie.Need-opcode-requires
-opcode-requires c κs = search needs
-
-rule-of-requires : tie.Need-rule-of-requires
-rule-of-requires c κs = search needs
-
-operand-requires : tie.Need-operand-requires
-operand-requires c κs = search needs
-
-permits-requires : tie.Need-permits-requires
-permits-requires c κs = search needs
-
 returns : tie.Need-returns
 returns c = rw (← (c .before .before .before .before .opcode .ensures), c .if1 .taken)
 
@@ -48,10 +36,10 @@ pub check-spec : {M : Type 1} → statement M
 check-spec =
     tie.close
     (tie.spec
-    opcode-requires
-    rule-of-requires
-    operand-requires
-    permits-requires
+    (λ c κs. search needs)
+    (λ c κs. search needs)
+    (λ c κs. search needs)
+    (λ c κs. search needs)
     returns
     returns-2
     returns-3)

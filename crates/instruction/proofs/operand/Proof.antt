@@ -36,12 +36,6 @@ is b false h k =
     rw (high b (ltb-false b 8388608 h) k, h, lt-ltb (b - 8388608) 8388608 (omega (arith, ltb-false b 8388608 h, k)), lt-ltb b 16777216 k)
     (ap negsuc (omega (arith, ltb-false b 8388608 h, k)))
 
-add-turned : tie.Need-add-turned
-add-turned c = search needs
-
-cast-result : tie.Need-cast-result
-cast-result c = search needs
-
 less : (w : ℕ) → SFits w32 (toZ w32 ((w % 16777216 + 8388608) % 16777216) -ℤ pos 8388608)
 less w = rw (read-back (w % 16777216 + 8388608)) (fits ((w % 16777216 + 8388608) % 16777216) _ refl (omega arith))
 
@@ -55,4 +49,8 @@ returns c =
     ∙ is (c .args .w % 16777216) _ refl (omega arith)
 
 pub operand-spec : {M : Type 1} → statement M
-operand-spec = tie.close (tie.spec add-turned cast-result sub-result returns)
+operand-spec = tie.close (tie.spec
+    (λ c. search needs)
+    (λ c. search needs)
+    sub-result
+    returns)

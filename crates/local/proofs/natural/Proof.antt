@@ -8,8 +8,7 @@ use Rattle.local.proofs.natural.Tie as tie
 cast-result : tie.Need-cast-result
 cast-result c = rw (toZ-ofZ (c .fits .k)) (not-negative (c .args .k) (c .pre), fits-natAbs tt (c .fits .k))
 
-returns : tie.Need-returns
-returns c = search needs
-
 pub natural-spec : {M : Type 1} → statement M
-natural-spec = tie.close (tie.spec cast-result returns)
+natural-spec = tie.close (tie.spec
+    cast-result
+    (λ c. search needs))

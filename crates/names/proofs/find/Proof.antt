@@ -27,12 +27,6 @@ cast-t6 c = record { fits = omega (arith, c .before .before .loop-test .taken) }
 returns : tie.Need-returns Inv-loop μ-loop
 returns c = sym (c .before .before .before .loop .inv ∙ hit _ _ (c .before .before .loop-test .taken) (sym (c .before .is-name .ensures) ∙ c .if1 .taken))
 
-add-k : tie.Need-add-k Inv-loop μ-loop
-add-k c = search needs
-
-loop-less : tie.Need-loop-less Inv-loop μ-loop
-loop-less c = search needs
-
 loop-again : tie.Need-loop-again Inv-loop μ-loop
 loop-again c = c .before .before .before .loop .inv ∙ miss _ _ (c .before .before .loop-test .taken) (sym (c .before .is-name .ensures) ∙ c .if1 .left)
 
@@ -49,7 +43,7 @@ find-spec =
     is-name-requires
     cast-t6
     returns
-    add-k
-    loop-less
+    (λ c. search needs)
+    (λ c. search needs)
     loop-again
     returns-2)

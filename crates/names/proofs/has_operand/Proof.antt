@@ -3,24 +3,6 @@ use borrow.Author.Needs.{needs}
 use Rattle.names.proofs.has_operand.Statement.{statement}
 use Rattle.names.proofs.has_operand.Tie as tie
 
-rule-of-requires : tie.Need-rule-of-requires
-rule-of-requires c κs = search needs
-
-enum-told : tie.Need-enum-told
-enum-told c = search needs
-
-enum-told-2 : tie.Need-enum-told-2
-enum-told-2 c = search needs
-
-enum-told-3 : tie.Need-enum-told-3
-enum-told-3 c = search needs
-
-enum-told-4 : tie.Need-enum-told-4
-enum-told-4 c = search needs
-
-enum-told-5 : tie.Need-enum-told-5
-enum-told-5 c = search needs
-
 returns : tie.Need-returns
 returns c = rw (← (c .before .before .rule-of .ensures), c .enum-told .given .1)
 
@@ -40,12 +22,12 @@ pub has-operand-spec : {M : Type 1} → statement M
 has-operand-spec =
     tie.close
     (tie.spec
-    rule-of-requires
-    enum-told
-    enum-told-2
-    enum-told-3
-    enum-told-4
-    enum-told-5
+    (λ c κs. search needs)
+    (λ c. search needs)
+    (λ c. search needs)
+    (λ c. search needs)
+    (λ c. search needs)
+    (λ c. search needs)
     returns
     returns-2
     returns-3

@@ -8,15 +8,12 @@ use Rattle.names.specs.Names.{names, padded, table}
 use Rattle.names.proofs.opcode_named.Statement.{statement}
 use Rattle.names.proofs.opcode_named.Tie as tie
 
-slice-aggregate-find : tie.Need-slice-aggregate-find
-slice-aggregate-find c = search needs
-
 find-requires : tie.Need-find-requires
 unfolding bytes names padded same split table
 find-requires c κs = same-is _ _ refl
 
-returns : tie.Need-returns
-returns c = search needs
-
 pub opcode-named-spec : {M : Type 1} → statement M
-opcode-named-spec = tie.close (tie.spec slice-aggregate-find find-requires returns)
+opcode-named-spec = tie.close (tie.spec
+    (λ c. search needs)
+    find-requires
+    (λ c. search needs))

@@ -13,19 +13,19 @@ use Rattle.names.proofs.put_name.Tie as tie
 returns : tie.Need-returns
 returns c = (no-name _ _ _ (c .if1 .taken), omega arith)
 
-slice-aggregate-put-entry : tie.Need-slice-aggregate-put-entry
-slice-aggregate-put-entry c = search needs
-
 put-entry-requires : tie.Need-put-entry-requires
 unfolding bytes names padded same split table
 put-entry-requires c κs = (same-is _ _ refl, (c .before .before .if1 .left, c .before .before .before .before .pre))
-
-same-length : tie.Need-same-length
-same-length c = search needs
 
 returns-2 : tie.Need-returns-2
 returns-2 c = let p = c .before .before .put-entry .ensures in (p, omega (arith, p .reached, right _ (c .before .before .before .before .before .if1 .left) .short))
 
 pub put-name-spec : {M : Type 1} → statement M
 put-name-spec =
-    tie.close (tie.spec returns slice-aggregate-put-entry put-entry-requires same-length returns-2)
+    tie.close
+    (tie.spec
+    returns
+    (λ c. search needs)
+    put-entry-requires
+    (λ c. search needs)
+    returns-2)

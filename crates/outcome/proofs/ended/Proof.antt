@@ -4,11 +4,10 @@ use borrow.Author.Needs.{needs}
 use Rattle.outcome.proofs.ended.Statement.{statement}
 use Rattle.outcome.proofs.ended.Tie as tie
 
-answer-of-requires : tie.Need-answer-of-requires
-answer-of-requires c κs = search needs
-
 returns : tie.Need-returns
 returns c = record { answered = c .answer-of .ensures; counted = refl; registers = refl }
 
 pub ended-spec : {M : Type 1} → statement M
-ended-spec = tie.close (tie.spec answer-of-requires returns)
+ended-spec = tie.close (tie.spec
+    (λ c κs. search needs)
+    returns)

@@ -18,9 +18,6 @@ use Rattle.passing.proofs.Laws.{goes-on, lowered-fits, waits}
 use Rattle.passing.proofs.lower.Statement.{statement}
 use Rattle.passing.proofs.lower.Tie as tie
 
-count-requires : tie.Need-count-requires
-count-requires c κs = search needs
-
 sub-lowered : tie.Need-sub-lowered
 sub-lowered c = rw (read-back (c .count .ok) refl) (sfits-of {w = w32} {z = c .count .result -ℤ pos 1} (lowered-fits (c .count .result) (c .before .before .before .args .size) (c .count .ok) (rw (c .count .ensures) (c .before .before .before .pre .1 .1 .1 .0)) (c .before .before .before .pre .0 .small)))
 
@@ -28,23 +25,8 @@ sub-lowered c = rw (read-back (c .count .ok) refl) (sfits-of {w = w32} {z = c .c
 lowered : (c : tie.After-count) → toZ w32 (ofZ w32 (toZ w32 (ofZ w32 (c .count .result)) -ℤ pos 1)) ≡ semaphoreCount (c .before .before .before .args .size) (now (c .before .before .before .args .values)) (c .before .before .before .args .k .0) -ℤ pos 1
 lowered c = toZ-ofZ (sub-lowered c) ∙ ap (λ (z : ℤ). z -ℤ pos 1) (read-back (c .count .ok) (c .count .ensures))
 
-set-count-requires : tie.Need-set-count-requires
-set-count-requires c κs = search needs
-
-popped-requires : tie.Need-popped-requires
-popped-requires c κs = search needs
-
-at-semaphore-requires : tie.Need-at-semaphore-requires
-at-semaphore-requires c κs = search needs
-
 block-requires : tie.Need-block-requires
 block-requires c κs = rw (c .before .before .before .popped .ensures) (c .before .before .before .before .before .before .before .before .before .before .pre .0, (c .before .before .before .before .before .before .before .before .before .before .pre .1 .1 .1 .1 .0, λ place. tt))
-
-same-length : tie.Need-same-length
-same-length c = search needs
-
-same-length-2 : tie.Need-same-length-2
-same-length-2 c = search needs
 
 returns : tie.Need-returns
 returns c n store =
@@ -52,9 +34,6 @@ returns c n store =
     rw (c .before .before .before .before .before .before .before .before .set-count .ensures, lowered (c .before .before .before .before .before .before .before .before .before .before))
     ((rw (c .before .before .before .before .before .before .popped .ensures, c .before .before .before .at-semaphore .ensures) at (c .before .before .block .ensures .is store left))
     ∙ waits (c .before .before .before .before .before .before .before .before .before .before .before .before .before .args .size) n (onward (at store (tablesOf (c .before .before .before .before .before .before .before .before .before .before .before .before .before .args .size) (now (c .before .before .before .before .before .before .before .before .before .before .before .before .before .args .tables))) (now (c .before .before .before .before .before .before .before .before .before .before .before .before .before .args .values)) (c .before .before .before .before .before .before .before .before .before .before .before .before .before .args .r))) (c .before .before .before .before .before .before .before .before .before .before .before .before .before .args .k .0) _ (rw (lowered (c .before .before .before .before .before .before .before .before .before .before)) at (c .before .before .before .before .before .if1 .taken)))
-
-same-length-3 : tie.Need-same-length-3
-same-length-3 c = search needs
 
 returns-2 : tie.Need-returns-2
 returns-2 c n store =
@@ -65,14 +44,14 @@ pub lower-spec : {M : Type 1} → statement M
 lower-spec =
     tie.close
     (tie.spec
-    count-requires
+    (λ c κs. search needs)
     sub-lowered
-    set-count-requires
-    popped-requires
-    at-semaphore-requires
+    (λ c κs. search needs)
+    (λ c κs. search needs)
+    (λ c κs. search needs)
     block-requires
-    same-length
-    same-length-2
+    (λ c. search needs)
+    (λ c. search needs)
     returns
-    same-length-3
+    (λ c. search needs)
     returns-2)

@@ -36,41 +36,11 @@ outside c = fits-unless (c .before .before .sum .ok) (number (c .before .before)
 inside : (c : tie.Else1) → ltb (mag (above (c .before .before .before .before .before .before))) 2147483648 ≡ true
 inside c = fits-unless (c .before .before .sum .ok) (number (c .before .before)) (c .before .fits2 .ensures) (c .if1 .left)
 
-count-requires : tie.Need-count-requires
-count-requires c κs = search needs
-
-sum-requires : tie.Need-sum-requires
-sum-requires c κs = search needs
-
-fits-requires : tie.Need-fits-requires
-fits-requires c κs = search needs
-
-stop-requires : tie.Need-stop-requires
-stop-requires c κs = search needs
-
-same-length : tie.Need-same-length
-same-length c = search needs
-
 returns : tie.Need-returns
 returns c n store = rw (c .stop .ensures) (ap (leaves _) (sym (fits-out _ _ (outside (c .before)))))
 
 cast-raised : tie.Need-cast-raised
 cast-raised c = narrows (c .before .before .sum .ok) (number (c .before .before)) (inside c)
-
-set-count-requires : tie.Need-set-count-requires
-set-count-requires c κs = search needs
-
-wake-unless-positive-requires : tie.Need-wake-unless-positive-requires
-wake-unless-positive-requires c κs = search needs
-
-popped-requires : tie.Need-popped-requires
-popped-requires c κs = search needs
-
-same-length-2 : tie.Need-same-length-2
-same-length-2 c = search needs
-
-same-length-3 : tie.Need-same-length-3
-same-length-3 c = search needs
 
 returns-2 : tie.Need-returns-2
 returns-2 c n store =
@@ -81,16 +51,16 @@ pub raise-spec : {M : Type 1} → statement M
 raise-spec =
     tie.close
     (tie.spec
-    count-requires
-    sum-requires
-    fits-requires
-    stop-requires
-    same-length
+    (λ c κs. search needs)
+    (λ c κs. search needs)
+    (λ c κs. search needs)
+    (λ c κs. search needs)
+    (λ c. search needs)
     returns
     cast-raised
-    set-count-requires
-    wake-unless-positive-requires
-    popped-requires
-    same-length-2
-    same-length-3
+    (λ c κs. search needs)
+    (λ c κs. search needs)
+    (λ c κs. search needs)
+    (λ c. search needs)
+    (λ c. search needs)
     returns-2)

@@ -9,18 +9,15 @@ use Rattle.passing.proofs.wake_unless_positive.Tie as tie
 returns : tie.Need-returns
 returns c = rw (positive (c .before .before .args .count) (rw (toZ-ofZ (c .before .before .fits .count)) at (c .if1 .taken))) (record { is = refl; good = c .before .before .pre .0 })
 
-at-semaphore-requires : tie.Need-at-semaphore-requires
-at-semaphore-requires c κs = search needs
-
-wake-first-requires : tie.Need-wake-first-requires
-wake-first-requires c κs = search needs
-
-same-length : tie.Need-same-length
-same-length c = search needs
-
 returns-2 : tie.Need-returns-2
 returns-2 c = rw (not-positive (c .before .before .before .before .before .before .before .args .count) (rw (toZ-ofZ (c .before .before .before .before .before .before .before .fits .count)) at (c .before .before .before .before .before .if1 .left)), ← (c .before .before .before .at-semaphore .ensures)) (c .before .before .wake-first .ensures)
 
 pub wake-unless-positive-spec : {M : Type 1} → statement M
 wake-unless-positive-spec =
-    tie.close (tie.spec returns at-semaphore-requires wake-first-requires same-length returns-2)
+    tie.close
+    (tie.spec
+    returns
+    (λ c κs. search needs)
+    (λ c κs. search needs)
+    (λ c. search needs)
+    returns-2)

@@ -21,18 +21,6 @@ loop-holds c = (refl, search needs, none-filled)
 start-at-requires : tie.Need-start-at-requires Inv-loop μ-loop
 start-at-requires c κs = c .before .before .before .pre .small
 
-mul-tables : tie.Need-mul-tables Inv-loop μ-loop
-mul-tables c = search needs
-
-slice-write-tables : tie.Need-slice-write-tables Inv-loop μ-loop
-slice-write-tables c = search needs
-
-add-i : tie.Need-add-i Inv-loop μ-loop
-add-i c = search needs
-
-loop-less : tie.Need-loop-less Inv-loop μ-loop
-loop-less c = search needs
-
 loop-again : tie.Need-loop-again Inv-loop μ-loop
 loop-again c = (simp length-set (c .before .before .loop .inv .0), simp length-set (omega arith), one-filled _ (c .before .loop-test .taken) (c .start-at .ensures) (c .before .before .loop .inv .2))
 
@@ -50,10 +38,10 @@ start-tables-spec =
     μ-loop
     loop-holds
     start-at-requires
-    mul-tables
-    slice-write-tables
-    add-i
-    loop-less
+    (λ c. search needs)
+    (λ c. search needs)
+    (λ c. search needs)
+    (λ c. search needs)
     loop-again
     same-length
     returns)

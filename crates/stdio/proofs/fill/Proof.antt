@@ -16,21 +16,6 @@ Inv-loop buf₀ done₀ buf done = (done ≤ length buf) × (length buf ≡ leng
 abbrev μ-loop : tie.MeasureT-loop
 μ-loop buf₀ done₀ buf done = length buf - done
 
-loop-holds : tie.Need-loop-holds Inv-loop μ-loop
-loop-holds c = search needs
-
-sub-read-some : tie.Need-sub-read-some Inv-loop μ-loop
-sub-read-some c = search needs
-
-part-read-some-start : tie.Need-part-read-some-start Inv-loop μ-loop
-part-read-some-start c = search needs
-
-part-read-some-end : tie.Need-part-read-some-end Inv-loop μ-loop
-part-read-some-end c = search needs
-
-read-some-requires : tie.Need-read-some-requires Inv-loop μ-loop
-read-some-requires c κs = search needs
-
 -- after a read into the part from `done` on: what was read is in the buffer, which is as long as before
 record Grown (buf part : List ℕ) (done more : ℕ) : Type 0 where
   within : done + more ≤ length buf
@@ -45,9 +30,6 @@ grown buf part done more kept inside start = record {
 read : (c : tie.After-struct-known Inv-loop μ-loop) → Grown (c .before .before .before .before .before .before .loop .buf) (c .before .before .before .read-some .last .0) (c .before .before .before .before .before .before .loop .length) (c .before .before .before .read-some .result .length)
 read c = grown _ _ _ _ (c .before .before .before .read-some .kept .0) (c .before .before .before .read-some .ensures .0) (c .before .before .before .before .before .before .loop .inv .0)
 
-same-length : tie.Need-same-length Inv-loop μ-loop
-same-length c = search needs
-
 returns : tie.Need-returns Inv-loop μ-loop
 returns c = counts _ _ (omega (arith, c .before .before .before .before .before .before .before .loop .inv .0, read (c .before) .same))
 
@@ -61,9 +43,6 @@ loop-again : tie.Need-loop-again Inv-loop μ-loop
 loop-again c =
     (omega (arith, read (c .before .before) .within, read (c .before .before) .same), read (c .before .before) .same ∙ c .before .before .before .before .before .before .before .before .loop .inv .1)
 
-same-length-2 : tie.Need-same-length-2 Inv-loop μ-loop
-same-length-2 c = search needs
-
 returns-2 : tie.Need-returns-2 Inv-loop μ-loop
 returns-2 c = counts _ _ (c .before .loop .inv .0)
 
@@ -73,15 +52,15 @@ fill-spec =
     (tie.spec
     Inv-loop
     μ-loop
-    loop-holds
-    sub-read-some
-    part-read-some-start
-    part-read-some-end
-    read-some-requires
-    same-length
+    (λ c. search needs)
+    (λ c. search needs)
+    (λ c. search needs)
+    (λ c. search needs)
+    (λ c κs. search needs)
+    (λ c. search needs)
     returns
     add-length
     loop-less
     loop-again
-    same-length-2
+    (λ c. search needs)
     returns-2)

@@ -10,29 +10,11 @@ use Rattle.text.proofs.Lines.{both, of}
 use Rattle.text.proofs.put_signed.Statement.{statement}
 use Rattle.text.proofs.put_signed.Tie as tie
 
-magnitude-requires : tie.Need-magnitude-requires
-magnitude-requires c κs = search needs
-
-put-byte-requires : tie.Need-put-byte-requires
-put-byte-requires c κs = search needs
-
-put-decimal-requires : tie.Need-put-decimal-requires
-put-decimal-requires c κs = search needs
-
-same-length : tie.Need-same-length
-same-length c = search needs
-
 returns : tie.Need-returns
 returns c =
     let f = c .before .before .before .before .before .before .before .before .before .before .before .fits .v in
     let e = ap decimal ((rw (toZ-ofZ f) at (c .before .before .before .before .before .before .before .before .before .magnitude .ensures))) in
     (of (ap (λ (l : List ℕ). 45 ∷ l) e ∙ below-zero (c .before .before .before .before .before .before .before .before .before .before .before .args .v) (rw (toZ-ofZ f) at (c .before .before .before .before .before .before .before .before .if1 .taken))) (both (c .before .before .before .before .before .before .put-byte .ensures) (c .before .before .put-decimal .ensures .0)), search needs)
-
-put-decimal-requires-2 : tie.Need-put-decimal-requires-2
-put-decimal-requires-2 c κs = search needs
-
-same-length-2 : tie.Need-same-length-2
-same-length-2 c = search needs
 
 returns-2 : tie.Need-returns-2
 returns-2 c =
@@ -43,11 +25,11 @@ pub put-signed-spec : {M : Type 1} → statement M
 put-signed-spec =
     tie.close
     (tie.spec
-    magnitude-requires
-    put-byte-requires
-    put-decimal-requires
-    same-length
+    (λ c κs. search needs)
+    (λ c κs. search needs)
+    (λ c κs. search needs)
+    (λ c. search needs)
     returns
-    put-decimal-requires-2
-    same-length-2
+    (λ c κs. search needs)
+    (λ c. search needs)
     returns-2)

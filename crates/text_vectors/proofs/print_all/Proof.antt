@@ -15,32 +15,11 @@ abbrev μ-loop : tie.MeasureT-loop
 loop-holds : tie.Need-loop-holds Inv-loop μ-loop
 loop-holds c = omega arith
 
-find-requires : tie.Need-find-requires Inv-loop μ-loop
-find-requires c κs = search needs
-
-sub-print-line : tie.Need-sub-print-line Inv-loop μ-loop
-sub-print-line c = search needs
-
-part-print-line-start : tie.Need-part-print-line-start Inv-loop μ-loop
-part-print-line-start c = search needs
-
-part-print-line-end : tie.Need-part-print-line-end Inv-loop μ-loop
-part-print-line-end c = search needs
-
-print-line-requires : tie.Need-print-line-requires Inv-loop μ-loop
-print-line-requires c κs = search needs
-
-add-at : tie.Need-add-at Inv-loop μ-loop
-add-at c = search needs
-
 loop-less : tie.Need-loop-less Inv-loop μ-loop
 loop-less c = omega (arith, c .before .before .find .ensures .0, c .before .before .find .ensures .1, c .before .before .before .loop-test .taken)
 
 loop-again : tie.Need-loop-again Inv-loop μ-loop
 loop-again c = omega (arith, c .before .before .find .ensures .1)
-
-returns : tie.Need-returns Inv-loop μ-loop
-returns c = search needs
 
 pub print-all-spec : {M : Type 1} → statement M
 print-all-spec =
@@ -49,12 +28,12 @@ print-all-spec =
     Inv-loop
     μ-loop
     loop-holds
-    find-requires
-    sub-print-line
-    part-print-line-start
-    part-print-line-end
-    print-line-requires
-    add-at
+    (λ c κs. search needs)
+    (λ c. search needs)
+    (λ c. search needs)
+    (λ c. search needs)
+    (λ c κs. search needs)
+    (λ c. search needs)
     loop-less
     loop-again
-    returns)
+    (λ c. search needs))

@@ -4,12 +4,6 @@ use borrow.Author.Needs.{needs}
 use Rattle.wellformed.proofs.sizes_fit.Statement.{statement}
 use Rattle.wellformed.proofs.sizes_fit.Tie as tie
 
-mul-if1 : tie.Need-mul-if1
-mul-if1 c = search needs
-
-mul-result : tie.Need-mul-result
-mul-result c = search needs
-
 returns : tie.Need-returns
 returns c = rw (eq-eqb _ _ (c .if1 .taken))
 
@@ -17,4 +11,8 @@ returns-2 : tie.Need-returns-2
 returns-2 c = rw (ne-eqb _ _ (c .if1 .left))
 
 pub sizes-fit-spec : {M : Type 1} → statement M
-sizes-fit-spec = tie.close (tie.spec mul-if1 mul-result returns returns-2)
+sizes-fit-spec = tie.close (tie.spec
+    (λ c. search needs)
+    (λ c. search needs)
+    returns
+    returns-2)

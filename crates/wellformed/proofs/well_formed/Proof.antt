@@ -26,15 +26,9 @@ counted c = made _ _ (sym (c .before .before .before .registers-fit .ensures) �
 sized : (c : tie.Else3) → length (now (c .before .before .before .before .before .before .before .args .values)) ≡ 2 * c .before .before .before .before .before .before .before .args .size
 sized c = valued (c .before .before .before .before .before .before .before .args .size) (now (c .before .before .before .before .before .before .before .args .tables)) (now (c .before .before .before .before .before .before .before .args .values)) (sym (c .before .before .before .before .before .sizes-fit .ensures) ∙ not-false (c .before .before .before .before .before .sizes-fit .result) (c .before .before .before .before .if1 .left))
 
-sizes-fit-requires : tie.Need-sizes-fit-requires
-sizes-fit-requires c κs = search needs
-
 returns : tie.Need-returns
 unfolding wellFormed
 returns c = rw (← (c .before .sizes-fit .ensures), not-true (c .before .sizes-fit .result) (c .if1 .taken))
-
-registers-fit-requires : tie.Need-registers-fit-requires
-registers-fit-requires c κs = search needs
 
 returns-2 : tie.Need-returns-2
 unfolding wellFormed formed
@@ -55,9 +49,6 @@ owners-fit-requires c κs = (tidy (c .before .before), counted (c .before .befor
 
 levels-fit-requires : tie.Need-levels-fit-requires
 levels-fit-requires c κs = (tidy (c .before .before .before .before), (counted (c .before .before .before .before), sized (c .before .before .before .before)))
-
-fault-fits-requires : tie.Need-fault-fits-requires
-fault-fits-requires c κs = search needs
 
 state-fits-requires : tie.Need-state-fits-requires
 state-fits-requires c κs = tidy (c .before .before .before .before .before .before .before .before)
@@ -92,16 +83,16 @@ pub well-formed-spec : {M : Type 1} → statement M
 well-formed-spec =
     tie.close
     (tie.spec
-    sizes-fit-requires
+    (λ c κs. search needs)
     returns
-    registers-fit-requires
+    (λ c κs. search needs)
     returns-2
     line-fits-requires
     returns-3
     threads-fit-requires
     owners-fit-requires
     levels-fit-requires
-    fault-fits-requires
+    (λ c κs. search needs)
     state-fits-requires
     returns-4
     returns-5

@@ -21,20 +21,11 @@ returns c = sym (other-length _ _ (c .if1 .taken))
 loop-holds : tie.Need-loop-holds Inv-loop μ-loop
 loop-holds c = refl
 
-shared-slice-read-if2 : tie.Need-shared-slice-read-if2 Inv-loop μ-loop
-shared-slice-read-if2 c = search needs
-
 shared-slice-read-if2-2 : tie.Need-shared-slice-read-if2-2 Inv-loop μ-loop
 shared-slice-read-if2-2 c = omega (arith, c .before .before .loop-test .taken, c .before .before .before .before .if1 .left)
 
 returns-2 : tie.Need-returns-2 Inv-loop μ-loop
 returns-2 c = sym (c .before .before .before .before .loop .inv ∙ same-none _ _ _ (c .before .before .before .loop-test .taken) (omega (arith, c .before .before .before .loop-test .taken, c .before .before .before .before .before .if1 .left)) (c .if2 .taken))
-
-add-i : tie.Need-add-i Inv-loop μ-loop
-add-i c = search needs
-
-loop-less : tie.Need-loop-less Inv-loop μ-loop
-loop-less c = search needs
 
 loop-again : tie.Need-loop-again Inv-loop μ-loop
 loop-again c = c .before .before .before .before .loop .inv ∙ same-on _ _ _ (c .before .before .before .loop-test .taken) (omega (arith, c .before .before .before .loop-test .taken, c .before .before .before .before .before .if1 .left)) (c .if2 .left)
@@ -50,10 +41,10 @@ is-same-spec =
     μ-loop
     returns
     loop-holds
-    shared-slice-read-if2
+    (λ c. search needs)
     shared-slice-read-if2-2
     returns-2
-    add-i
-    loop-less
+    (λ c. search needs)
+    (λ c. search needs)
     loop-again
     returns-3)

@@ -25,9 +25,6 @@ mul-put-word c = omega arith
 add-put-word : tie.Need-add-put-word Inv-loop μ-loop
 add-put-word c = omega arith
 
-mul-put-word-2 : tie.Need-mul-put-word-2 Inv-loop μ-loop
-mul-put-word-2 c = search needs
-
 shared-slice-read-put-word : tie.Need-shared-slice-read-put-word Inv-loop μ-loop
 shared-slice-read-put-word c = omega arith
 
@@ -58,7 +55,7 @@ put-code-spec =
     loop-holds
     mul-put-word
     add-put-word
-    mul-put-word-2
+    (λ c. search needs)
     shared-slice-read-put-word
     put-word-requires
     add-i

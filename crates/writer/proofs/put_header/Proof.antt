@@ -6,18 +6,6 @@ use lib.ListN.{length-set}
 use Rattle.writer.proofs.put_header.Statement.{statement}
 use Rattle.writer.proofs.put_header.Tie as tie
 
-mul-put-word : tie.Need-mul-put-word
-mul-put-word c = search needs
-
-add-put-word : tie.Need-add-put-word
-add-put-word c = search needs
-
-put-word-requires : tie.Need-put-word-requires
-put-word-requires c κs = search needs
-
-slice-write-out : tie.Need-slice-write-out
-slice-write-out c = search needs
-
 put-half-requires : tie.Need-put-half-requires
 put-half-requires c κs = simp length-set (omega (arith, c .before .before .before .put-word .kept .0))
 
@@ -34,10 +22,10 @@ pub put-header-spec : {M : Type 1} → statement M
 put-header-spec =
     tie.close
     (tie.spec
-    mul-put-word
-    add-put-word
-    put-word-requires
-    slice-write-out
+    (λ c. search needs)
+    (λ c. search needs)
+    (λ c κs. search needs)
+    (λ c. search needs)
     put-half-requires
     put-half-requires-2
     same-length

@@ -39,15 +39,9 @@ found c =
     rw (← (c .before .last-of .ensures))
     (rw (toZ-ofZ (sfits-of {w = w32} {z = c .before .last-of .result} (c .before .last-of .ok))) at (c .scan-words .ensures))
 
-out-of-range-requires : tie.Need-out-of-range-requires
-out-of-range-requires c κs = search needs
-
 returns : tie.Need-returns
 unfolding writeOf
 returns c = keeps _ _ _ _ _ (rw (← (c .before .out-of-range .ensures), c .if1 .taken))
-
-out-of-range-requires-2 : tie.Need-out-of-range-requires-2
-out-of-range-requires-2 c κs = search needs
 
 returns-2 : tie.Need-returns-2
 unfolding writeOf
@@ -56,24 +50,9 @@ returns-2 c = keeps _ _ _ _ _ (rw (← (c .before .before .before .out-of-range 
 last-of-requires : tie.Need-last-of-requires
 last-of-requires c κs = in-range _ (sym (c .before .out-of-range2 .ensures) ∙ c .if2 .left) .most
 
-scan-words-requires : tie.Need-scan-words-requires
-scan-words-requires c κs = search needs
-
-enum-known-number : tie.Need-enum-known-number
-enum-known-number c = search needs
-
 returns-3 : tie.Need-returns-3
 unfolding writeOf
 returns-3 c = keeps _ _ _ _ _ (rw (sizes-fine (c .before .before .before .before .before), ← (found (c .before .before .before)), c .before .number .given .1))
-
-enum-told : tie.Need-enum-told
-enum-told c = search needs
-
-mul-size : tie.Need-mul-size
-mul-size c = search needs
-
-add-size : tie.Need-add-size
-add-size c = search needs
 
 returns-4 : tie.Need-returns-4
 unfolding writeOf
@@ -88,12 +67,6 @@ cast-put-header-2 c = omega (arith, in-range (length (now (c .before .before .be
 put-header-requires : tie.Need-put-header-requires
 put-header-requires c κs = (omega arith, in-range _ (sym (c .before .before .before .before .before .before .before .out-of-range2 .ensures) ∙ c .before .before .before .before .before .before .if2 .left) .most)
 
-put-code-requires : tie.Need-put-code-requires
-put-code-requires c κs = search needs
-
-same-length : tie.Need-same-length
-same-length c = search needs
-
 returns-5 : tie.Need-returns-5
 unfolding writeOf
 returns-5 c =
@@ -105,21 +78,21 @@ pub write-spec : {M : Type 1} → statement M
 write-spec =
     tie.close
     (tie.spec
-    out-of-range-requires
+    (λ c κs. search needs)
     returns
-    out-of-range-requires-2
+    (λ c κs. search needs)
     returns-2
     last-of-requires
-    scan-words-requires
-    enum-known-number
+    (λ c κs. search needs)
+    (λ c. search needs)
     returns-3
-    enum-told
-    mul-size
-    add-size
+    (λ c. search needs)
+    (λ c. search needs)
+    (λ c. search needs)
     returns-4
     cast-put-header
     cast-put-header-2
     put-header-requires
-    put-code-requires
-    same-length
+    (λ c κs. search needs)
+    (λ c. search needs)
     returns-5)

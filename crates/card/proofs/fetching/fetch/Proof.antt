@@ -5,21 +5,15 @@ use mir.Facts.{toZ-ofZ}
 use Rattle.card.proofs.fetching.fetch.Statement.{statement}
 use Rattle.card.proofs.fetching.fetch.Tie as tie
 
-mul-word-at : tie.Need-mul-word-at
-mul-word-at c = search needs
-
-word-at-requires : tie.Need-word-at-requires
-word-at-requires c κs = search needs
-
-opcode-requires : tie.Need-opcode-requires
-opcode-requires c κs = search needs
-
-operand-requires : tie.Need-operand-requires
-operand-requires c κs = search needs
-
 returns : tie.Need-returns
 returns c = rw (← (c .before .before .word-at .ensures), ← (c .before .opcode .ensures), ← (c .operand .ensures), toZ-ofZ (sfits-of {w = w32} {z = c .operand .result} (c .operand .ok)))
 
 pub fetch-spec : {M : Type 1} → statement M
 fetch-spec =
-    tie.close (tie.spec mul-word-at word-at-requires opcode-requires operand-requires returns)
+    tie.close
+    (tie.spec
+    (λ c. search needs)
+    (λ c κs. search needs)
+    (λ c κs. search needs)
+    (λ c κs. search needs)
+    returns)

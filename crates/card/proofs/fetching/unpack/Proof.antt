@@ -35,17 +35,8 @@ returns c = record { all = λ some. absurd (omega arith); long = omega arith; wo
 loop-holds : tie.Need-loop-holds Inv-loop μ-loop
 loop-holds c = (omega arith, (refl, λ j below. absurd (omega arith)))
 
-mul-word-at : tie.Need-mul-word-at Inv-loop μ-loop
-mul-word-at c = search needs
-
 word-at-requires : tie.Need-word-at-requires Inv-loop μ-loop
 word-at-requires c κs = omega (arith, c .loop-test .taken, c .before .before .before .before .before .pre)
-
-mul-words : tie.Need-mul-words Inv-loop μ-loop
-mul-words c = search needs
-
-slice-write-words : tie.Need-slice-write-words Inv-loop μ-loop
-slice-write-words c = search needs
 
 add-i : tie.Need-add-i Inv-loop μ-loop
 add-i c = omega (arith, c .before .loop-test .taken, c .before .before .before .before .before .before .fits .n)
@@ -75,10 +66,10 @@ unpack-spec =
     μ-loop
     returns
     loop-holds
-    mul-word-at
+    (λ c. search needs)
     word-at-requires
-    mul-words
-    slice-write-words
+    (λ c. search needs)
+    (λ c. search needs)
     add-i
     loop-less
     loop-again

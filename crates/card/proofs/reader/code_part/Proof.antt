@@ -20,26 +20,11 @@ nine image r e a =
     let l = accepts image _ (sym e ∙ ap told a) .long in
     omega (arith, l .follows, l .least)
 
-read-requires : tie.Need-read-requires
-read-requires c κs = search needs
-
-enum-told : tie.Need-enum-told
-enum-told c = search needs
-
 sub-result : tie.Need-sub-result
 sub-result c = nine _ _ (c .before .before .read .ensures) (c .enum-told .given .1)
 
 part-result-start : tie.Need-part-result-start
 part-result-start c = nine _ _ (c .before .before .read .ensures) (c .enum-told .given .1)
-
-part-result-end : tie.Need-part-result-end
-part-result-end c = search needs
-
-enum-told-2 : tie.Need-enum-told-2
-enum-told-2 c = search needs
-
-slice-aggregate-result : tie.Need-slice-aggregate-result
-slice-aggregate-result c = search needs
 
 returns : tie.Need-returns
 unfolding codeOf
@@ -63,12 +48,12 @@ pub code-part-spec : {M : Type 1} → statement M
 code-part-spec =
     tie.close
     (tie.spec
-    read-requires
-    enum-told
+    (λ c κs. search needs)
+    (λ c. search needs)
     sub-result
     part-result-start
-    part-result-end
-    enum-told-2
-    slice-aggregate-result
+    (λ c. search needs)
+    (λ c. search needs)
+    (λ c. search needs)
     returns
     returns-2)

@@ -24,9 +24,6 @@ small (suc n) h = record { sfits = rw (le-ltb (suc n) 1 (omega arith)) (omega ar
 fits : (n : ℕ) → n ≤ 4096 → SFits w32 (toZ w32 n -ℤ pos 1)
 fits n h = rw (read-back n h) (small n h)
 
-cast-result : tie.Need-cast-result
-cast-result c = search needs
-
 sub-result : tie.Need-sub-result
 sub-result c = fits (c .args .n) (c .pre)
 
@@ -34,4 +31,7 @@ returns : tie.Need-returns
 returns c = toZ-ofZ (fits (c .args .n) (c .pre)) ∙ rw (read-back (c .args .n) (c .pre))
 
 pub last-of-spec : {M : Type 1} → statement M
-last-of-spec = tie.close (tie.spec cast-result sub-result returns)
+last-of-spec = tie.close (tie.spec
+    (λ c. search needs)
+    sub-result
+    returns)

@@ -9,9 +9,6 @@ use Rattle.card.proofs.Header.{headed, long, sized}
 use Rattle.card.proofs.reader.read.Statement.{statement}
 use Rattle.card.proofs.reader.read.Tie as tie
 
-wrong-length-requires : tie.Need-wrong-length-requires
-wrong-length-requires c κs = search needs
-
 returns : tie.Need-returns
 unfolding readOf
 returns c = rw (← (c .before .wrong-length .ensures), c .if1 .taken)
@@ -45,7 +42,7 @@ pub read-spec : {M : Type 1} → statement M
 read-spec =
     tie.close
     (tie.spec
-    wrong-length-requires
+    (λ c κs. search needs)
     returns
     shared-slice-read-if2
     returns-2

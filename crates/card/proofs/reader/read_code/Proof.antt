@@ -29,41 +29,11 @@ place c number index e =
     let n : length (wordsOf (drop 9 image)) ≡ countOf image = count (drop 9 image) (countOf image) (omega (arith, length-drop 9 image, h .sized)) in
     omega (arith, index-below _ _ 0 (sym (found c) ∙ e), h .most)
 
-half-at-requires : tie.Need-half-at-requires
-half-at-requires c κs = search needs
-
-cast-n : tie.Need-cast-n
-cast-n c = search needs
-
-sub-scan-code : tie.Need-sub-scan-code
-sub-scan-code c = search needs
-
-part-scan-code-start : tie.Need-part-scan-code-start
-part-scan-code-start c = search needs
-
-part-scan-code-end : tie.Need-part-scan-code-end
-part-scan-code-end c = search needs
-
-last-of-requires : tie.Need-last-of-requires
-last-of-requires c κs = search needs
-
-scan-code-requires : tie.Need-scan-code-requires
-scan-code-requires c κs = search needs
-
-enum-known-number : tie.Need-enum-known-number
-enum-known-number c = search needs
-
 mul-t13 : tie.Need-mul-t13
 mul-t13 c = omega (arith, place (c .before .before .before) _ _ (c .before .number .given .1))
 
 add-t14 : tie.Need-add-t14
 add-t14 c = omega (arith, place (c .before .before .before) _ _ (c .before .number .given .1))
-
-enum-told : tie.Need-enum-told
-enum-told c = search needs
-
-half-at-requires-2 : tie.Need-half-at-requires-2
-half-at-requires-2 c κs = search needs
 
 returns : tie.Need-returns
 unfolding readCode
@@ -77,17 +47,17 @@ pub read-code-spec : {M : Type 1} → statement M
 read-code-spec =
     tie.close
     (tie.spec
-    half-at-requires
-    cast-n
-    sub-scan-code
-    part-scan-code-start
-    part-scan-code-end
-    last-of-requires
-    scan-code-requires
-    enum-known-number
+    (λ c κs. search needs)
+    (λ c. search needs)
+    (λ c. search needs)
+    (λ c. search needs)
+    (λ c. search needs)
+    (λ c κs. search needs)
+    (λ c κs. search needs)
+    (λ c. search needs)
     mul-t13
     add-t14
-    enum-told
-    half-at-requires-2
+    (λ c. search needs)
+    (λ c κs. search needs)
     returns
     returns-2)

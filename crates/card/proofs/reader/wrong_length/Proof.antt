@@ -7,15 +7,6 @@ use Rattle.card.proofs.reader.wrong_length.Tie as tie
 returns : tie.Need-returns
 returns c = rw (lt-ltb _ _ (c .if1 .taken))
 
-word-at-requires : tie.Need-word-at-requires
-word-at-requires c κs = search needs
-
-cast-following : tie.Need-cast-following
-cast-following c = search needs
-
-add-if2 : tie.Need-add-if2
-add-if2 c = search needs
-
 returns-2 : tie.Need-returns-2
 returns-2 c = rw (le-ltb _ _ (c .before .before .if1 .left), ← (c .before .word-at .ensures), ne-eqb _ _ (c .if2 .taken))
 
@@ -24,4 +15,11 @@ returns-3 c = rw (le-ltb _ _ (c .before .before .if1 .left), ← (c .before .wor
 
 pub wrong-length-spec : {M : Type 1} → statement M
 wrong-length-spec =
-    tie.close (tie.spec returns word-at-requires cast-following add-if2 returns-2 returns-3)
+    tie.close
+    (tie.spec
+    returns
+    (λ c κs. search needs)
+    (λ c. search needs)
+    (λ c. search needs)
+    returns-2
+    returns-3)

@@ -4,18 +4,6 @@ use mir.Facts.{toZ-ofZ}
 use Rattle.card.proofs.scan.judge.Statement.{statement}
 use Rattle.card.proofs.scan.judge.Tie as tie
 
-check-requires : tie.Need-check-requires
-check-requires c κs = search needs
-
-enum-told : tie.Need-enum-told
-enum-told c = search needs
-
-enum-told-2 : tie.Need-enum-told-2
-enum-told-2 c = search needs
-
-enum-told-3 : tie.Need-enum-told-3
-enum-told-3 c = search needs
-
 returns : tie.Need-returns
 returns c = rw (← (rw (toZ-ofZ (c .before .before .before .fits .last)) at (c .before .before .check .ensures)), c .enum-told .given .1)
 
@@ -28,4 +16,11 @@ returns-3 c = rw (← (rw (toZ-ofZ (c .before .before .before .fits .last)) at (
 pub judge-spec : {M : Type 1} → statement M
 judge-spec =
     tie.close
-    (tie.spec check-requires enum-told enum-told-2 enum-told-3 returns returns-2 returns-3)
+    (tie.spec
+    (λ c κs. search needs)
+    (λ c. search needs)
+    (λ c. search needs)
+    (λ c. search needs)
+    returns
+    returns-2
+    returns-3)

@@ -28,19 +28,10 @@ mul-word-at c = omega arith
 word-at-requires : tie.Need-word-at-requires Inv-loop μ-loop
 word-at-requires c κs = omega arith
 
-judge-requires : tie.Need-judge-requires Inv-loop μ-loop
-judge-requires c κs = search needs
-
-enum-told : tie.Need-enum-told Inv-loop μ-loop
-enum-told c = search needs
-
 returns : tie.Need-returns Inv-loop μ-loop
 returns c =
     let told = c .enum-told .given .1 in
     told ∙ sym (rw (toZ-ofZ (c .before .before .before .before .before .before .before .fits .last)) at (c .before .before .before .before .before .loop .inv .1 ∙ stops _ _ _ _ _ _ (word _ _ (omega arith) .there) (word _ _ (omega arith) .is ∙ sym (c .before .before .before .word-at .ensures)) (sym (c .before .before .judge .ensures) ∙ told)))
-
-enum-told-2 : tie.Need-enum-told-2 Inv-loop μ-loop
-enum-told-2 c = search needs
 
 add-i : tie.Need-add-i Inv-loop μ-loop
 add-i c = omega arith
@@ -63,10 +54,10 @@ scan-code-spec =
     loop-holds
     mul-word-at
     word-at-requires
-    judge-requires
-    enum-told
+    (λ c κs. search needs)
+    (λ c. search needs)
     returns
-    enum-told-2
+    (λ c. search needs)
     add-i
     loop-less
     loop-again

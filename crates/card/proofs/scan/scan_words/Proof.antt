@@ -21,25 +21,10 @@ abbrev μ-loop : tie.MeasureT-loop
 loop-holds : tie.Need-loop-holds Inv-loop μ-loop
 loop-holds c = (search needs, refl)
 
-mul-judge : tie.Need-mul-judge Inv-loop μ-loop
-mul-judge c = search needs
-
-shared-slice-read-judge : tie.Need-shared-slice-read-judge Inv-loop μ-loop
-shared-slice-read-judge c = search needs
-
-judge-requires : tie.Need-judge-requires Inv-loop μ-loop
-judge-requires c κs = search needs
-
-enum-told : tie.Need-enum-told Inv-loop μ-loop
-enum-told c = search needs
-
 returns : tie.Need-returns Inv-loop μ-loop
 returns c =
     let told = c .enum-told .given .1 in
     told ∙ sym (rw (toZ-ofZ (c .before .before .before .before .before .before .before .fits .last)) at (c .before .before .before .before .before .loop .inv .1 ∙ stops _ _ _ _ _ _ (c .before .before .before .before .loop-test .taken) refl (sym (c .before .before .judge .ensures) ∙ told)))
-
-enum-told-2 : tie.Need-enum-told-2 Inv-loop μ-loop
-enum-told-2 c = search needs
 
 add-i : tie.Need-add-i Inv-loop μ-loop
 add-i c = omega arith
@@ -60,12 +45,12 @@ scan-words-spec =
     Inv-loop
     μ-loop
     loop-holds
-    mul-judge
-    shared-slice-read-judge
-    judge-requires
-    enum-told
+    (λ c. search needs)
+    (λ c. search needs)
+    (λ c κs. search needs)
+    (λ c. search needs)
     returns
-    enum-told-2
+    (λ c. search needs)
     add-i
     loop-less
     loop-again

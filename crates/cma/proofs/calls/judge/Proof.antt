@@ -19,7 +19,7 @@ returns-3 : tie.Need-returns-3
 returns-3 c = λ m. run-unread _ _ _ _ _ m (sym (c .before .before .before .read .ensures) ∙ ap told (c .before .number .given .1))
 
 returns-4 : tie.Need-returns-4
-returns-4 c = 
+returns-4 c =
     let formed = sym (c .before .well-formed .ensures) ∙ not-false (c .before .well-formed .result) (c .if2 .left) in
     record { cells = _; read = sym (c .before .before .before .before .before .read .ensures) ∙ ap told (c .before .before .before .enum-told .given .1); sound = record { store = eq-eqb _ _ (c .before .before .if1 .left); formed = formed } }
 

@@ -14,7 +14,7 @@ unpack-requires : tie.Need-unpack-requires
 unpack-requires c κs = let read = c .before .before .before .before .before .pre .1 .read in carded _ _ _ read (its-code _ _ read) .long
 
 run-requires : tie.Need-run-requires
-run-requires c κs = 
+run-requires c κs =
     let ready = c .before .before .before .before .before .before .before .before .before .before .before .before .pre .1 in
     let card = carded _ _ _ (ready .read) (its-code _ _ (ready .read)) in
     (card, (c .before .before .before .before .before .before .unpack .ensures, (c .before .before .before .before .before .before .before .before .before .before .before .before .pre .0, ready .sound)))

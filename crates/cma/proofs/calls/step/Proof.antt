@@ -13,13 +13,13 @@ proceed-requires : tie.Need-proceed-requires
 proceed-requires c κs = (omega arith, rw (c .before .before .before .before .enum-told .given .1) at (c .before .before .before .before .before .before .judge .ensures))
 
 returns : tie.Need-returns
-returns c = 
+returns c =
     let given = c .before .before .before .before .before .before .before .before .before .before .args in
     let box = boxed (now (given .store)) (now (given .tables)) (now (given .values)) (given .r) in
     rw (step-is-run full (now (given .image)) box) (refused-gives ((rw (c .before .before .number .given .1) at (c .before .before .before .before .judge .ensures)) _) (c .refused .ensures))
 
 returns-2 : tie.Need-returns-2
-returns-2 c = 
+returns-2 c =
     let given = c .before .before .before .before .before .before .before .before .before .before .before .before .before .before .before .before .before .before .args in
     let box = boxed (now (given .store)) (now (given .tables)) (now (given .values)) (given .r) in
     rw (step-is-run full (now (given .image)) box) (c .before .before .before .before .before .proceed .ensures)

@@ -15,12 +15,6 @@ use Rattle.conditions.proofs.waiting.wait_for.Tie as tie
 owns-requires : tie.Need-owns-requires
 owns-requires c κs = let mutex = passed _ _ _ _ _ _ _ (c .before .before .pre .1 .1 .1 .1) in (c .before .before .pre .1 .0, (c .before .before .pre .0 .thread, omega (arith, mutex .below, c .before .before .pre .1 .1 .0 .mutexes)))
 
-stop-requires : tie.Need-stop-requires
-stop-requires c κs = search needs
-
-same-length : tie.Need-same-length
-same-length c = search needs
-
 returns : tie.Need-returns
 returns c n values =
     rw (c .stop .ensures)
@@ -38,12 +32,6 @@ leave-requires c κs = rw (c .before .before .popped .ensures) (c .before .befor
 unlock-mutex-requires : tie.Need-unlock-mutex-requires
 unlock-mutex-requires c κs = let mutex = passed _ _ _ _ _ _ _ (c .before .before .before .before .before .before .before .before .before .before .before .pre .1 .1 .1 .1) in (c .before .before .before .leave .ensures .good, (omega (arith, mutex .below, c .before .before .before .before .before .before .before .before .before .before .before .pre .1 .1 .0 .mutexes), tt))
 
-next-requires : tie.Need-next-requires
-next-requires c κs = search needs
-
-same-length-2 : tie.Need-same-length-2
-same-length-2 c = search needs
-
 returns-2 : tie.Need-returns-2
 returns-2 c n values =
     let store = now (c .before .before .before .before .before .before .before .before .before .before .before .before .before .before .before .before .before .before .args .store) in
@@ -57,13 +45,13 @@ wait-for-spec =
     tie.close
     (tie.spec
     owns-requires
-    stop-requires
-    same-length
+    (λ c κs. search needs)
+    (λ c. search needs)
     returns
     popped-requires
     at-condition-requires
     leave-requires
     unlock-mutex-requires
-    next-requires
-    same-length-2
+    (λ c κs. search needs)
+    (λ c. search needs)
     returns-2)

@@ -4,14 +4,11 @@ use Rattle.machine.proofs.Equations.{carries, halt-is}
 use Rattle.control.proofs.control.halt.Statement.{statement}
 use Rattle.control.proofs.control.halt.Tie as tie
 
-advance-requires : tie.Need-advance-requires
-advance-requires c κs = search needs
-
-with-state-requires : tie.Need-with-state-requires
-with-state-requires c κs = search needs
-
 returns : tie.Need-returns
 returns c size store n tables values = rw (c .with-state .ensures, c .before .advance .ensures) (carries size n _ _ _ (halt-is size n _))
 
 pub halt-spec : {M : Type 1} → statement M
-halt-spec = tie.close (tie.spec advance-requires with-state-requires returns)
+halt-spec = tie.close (tie.spec
+    (λ c κs. search needs)
+    (λ c κs. search needs)
+    returns)

@@ -5,11 +5,10 @@ use borrow.Author.Needs.{needs}
 use Rattle.control.proofs.control.jump.Statement.{statement}
 use Rattle.control.proofs.control.jump.Tie as tie
 
-done-requires : tie.Need-done-requires
-done-requires c κs = search needs
-
 returns : tie.Need-returns
 returns c size t store n = rw (c .done .ensures) (carried-out λ tables values r. jump-is size n _ _)
 
 pub jump-spec : {M : Type 1} → statement M
-jump-spec = tie.close (tie.spec done-requires returns)
+jump-spec = tie.close (tie.spec
+    (λ c κs. search needs)
+    returns)

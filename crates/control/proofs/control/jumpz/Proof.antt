@@ -19,34 +19,16 @@ use Rattle.control.proofs.control.jumpz.Tie as tie
 tested : {x z : ℤ} {r b : Bool} → mag x < 2 ^ 31 → x ≡ z → r ≡ eqZ (toZ w32 (ofZ w32 x)) (pos 0) → r ≡ b → eqZ z (pos 0) ≡ b
 tested f e h t = sym (rw (read-back f e) at h) ∙ t
 
-stopped-requires : tie.Need-stopped-requires
-stopped-requires c κs = search needs
-
 returns : tie.Need-returns
 returns c n = rw (c .stopped .ensures) (refused λ tables values r. jumpz-is _ n _ _ ∙ needs-less 1 _ _ (omega arith))
 
-peek-requires : tie.Need-peek-requires
-peek-requires c κs = search needs
-
-is-zero-requires : tie.Need-is-zero-requires
-is-zero-requires c κs = search needs
-
-stopped-requires-2 : tie.Need-stopped-requires-2
-stopped-requires-2 c κs = search needs
-
 returns-2 : tie.Need-returns-2
 returns-2 c n = absurd (omega (arith, c .before .if3 .taken, c .before .before .before .before .before .before .pre .1))
-
-done-requires : tie.Need-done-requires
-done-requires c κs = search needs
 
 returns-3 : tie.Need-returns-3
 returns-3 c n =
     rw (c .done .ensures)
     (carried-out λ tables values r. jumpz-is _ n _ _ ∙ needs-met 1 _ _ (omega arith) ∙ rw (tested (c .before .before .before .before .peek .ok) (c .before .before .before .before .peek .ensures) (c .before .before .before .is-zero .ensures) (c .before .before .if2 .taken)))
-
-done-requires-2 : tie.Need-done-requires-2
-done-requires-2 c κs = search needs
 
 returns-4 : tie.Need-returns-4
 returns-4 c n =
@@ -57,13 +39,13 @@ pub jumpz-spec : {M : Type 1} → statement M
 jumpz-spec =
     tie.close
     (tie.spec
-    stopped-requires
+    (λ c κs. search needs)
     returns
-    peek-requires
-    is-zero-requires
-    stopped-requires-2
+    (λ c κs. search needs)
+    (λ c κs. search needs)
+    (λ c κs. search needs)
     returns-2
-    done-requires
+    (λ c κs. search needs)
     returns-3
-    done-requires-2
+    (λ c κs. search needs)
     returns-4)

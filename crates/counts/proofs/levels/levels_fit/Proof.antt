@@ -21,17 +21,8 @@ abbrev μ-loop : tie.MeasureT-loop
 loop-holds : tie.Need-loop-holds Inv-loop μ-loop
 loop-holds c = (omega arith, every-none _)
 
-level-fits-requires : tie.Need-level-fits-requires Inv-loop μ-loop
-level-fits-requires c κs = search needs
-
 returns : tie.Need-returns Inv-loop μ-loop
 returns c = sym (every-stop _ _ _ (c .before .before .loop-test .taken) (sym (c .before .level-fits .ensures) ∙ not-true _ (c .if1 .taken)))
-
-add-k : tie.Need-add-k Inv-loop μ-loop
-add-k c = search needs
-
-loop-less : tie.Need-loop-less Inv-loop μ-loop
-loop-less c = search needs
 
 loop-again : tie.Need-loop-again Inv-loop μ-loop
 loop-again c = (omega arith, every-more _ _ (c .before .before .before .loop .inv .1) (sym (c .before .level-fits .ensures) ∙ not-false _ (c .if1 .left)))
@@ -46,9 +37,9 @@ levels-fit-spec =
     Inv-loop
     μ-loop
     loop-holds
-    level-fits-requires
+    (λ c κs. search needs)
     returns
-    add-k
-    loop-less
+    (λ c. search needs)
+    (λ c. search needs)
     loop-again
     returns-2)

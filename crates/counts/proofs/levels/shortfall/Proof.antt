@@ -21,9 +21,6 @@ other : (v : ℤ) → ltZ v (pos 0) ≡ false → 0 ≡ shortfall v
 other (pos a) e = refl
 other (negsuc a) e = absurd (let z : _≡_ {A = ℕ} 0 1 = cc in omega arith)
 
-magnitude-requires : tie.Need-magnitude-requires
-magnitude-requires c κs = search needs
-
 returns : tie.Need-returns
 returns c = c .magnitude .ensures ∙ rw (toZ-ofZ (c .before .before .fits .v)) (negative (c .before .before .args .v) (rw (toZ-ofZ (c .before .before .fits .v)) at (c .before .if1 .taken)))
 
@@ -31,4 +28,7 @@ returns-2 : tie.Need-returns-2
 returns-2 c = other (c .before .args .v) (rw (toZ-ofZ (c .before .fits .v)) at (c .if1 .left))
 
 pub shortfall-spec : {M : Type 1} → statement M
-shortfall-spec = tie.close (tie.spec magnitude-requires returns returns-2)
+shortfall-spec = tie.close (tie.spec
+    (λ c κs. search needs)
+    returns
+    returns-2)

@@ -12,26 +12,11 @@ use Rattle.importer.proofs.Spelling.{uncut}
 use Rattle.importer.proofs.header.read_header.Statement.{statement}
 use Rattle.importer.proofs.header.read_header.Tie as tie
 
-find-requires : tie.Need-find-requires
-find-requires c κs = search needs
-
 returns : tie.Need-returns
 returns c = sym (ap codedHeader (uncut 10 (now (c .before .before .before .args .text)) (c .before .find .result) (c .before .find .ensures .0) (c .if1 .taken)))
 
 slice-aggregate-read-cells : tie.Need-slice-aggregate-read-cells
 slice-aggregate-read-cells c = sym (length-take-le _ _ (c .before .before .find .ensures .1))
-
-read-cells-requires : tie.Need-read-cells-requires
-read-cells-requires c κs = search needs
-
-enum-known-n : tie.Need-enum-known-n
-enum-known-n c = search needs
-
-add-t11 : tie.Need-add-t11
-add-t11 c = search needs
-
-enum-told : tie.Need-enum-told
-enum-told c = search needs
 
 returns-2 : tie.Need-returns-2
 returns-2 c =
@@ -47,12 +32,12 @@ pub read-header-spec : {M : Type 1} → statement M
 read-header-spec =
     tie.close
     (tie.spec
-    find-requires
+    (λ c κs. search needs)
     returns
     slice-aggregate-read-cells
-    read-cells-requires
-    enum-known-n
-    add-t11
-    enum-told
+    (λ c κs. search needs)
+    (λ c. search needs)
+    (λ c. search needs)
+    (λ c. search needs)
     returns-2
     returns-3)

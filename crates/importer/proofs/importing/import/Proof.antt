@@ -5,23 +5,8 @@ use Rattle.importer.proofs.Cards.{wrong-header}
 use Rattle.importer.proofs.importing.import.Statement.{statement}
 use Rattle.importer.proofs.importing.import.Tie as tie
 
-read-header-requires : tie.Need-read-header-requires
-read-header-requires c κs = search needs
-
-enum-known-cells : tie.Need-enum-known-cells
-enum-known-cells c = search needs
-
 import-lines-requires : tie.Need-import-lines-requires
 import-lines-requires c κs = sym (c .before .before .before .before .read-header .ensures) ∙ c .before .before .cells .given .1
-
-enum-told : tie.Need-enum-told
-enum-told c = search needs
-
-same-length : tie.Need-same-length
-same-length c = search needs
-
-returns : tie.Need-returns
-returns c = search needs
 
 returns-2 : tie.Need-returns-2
 returns-2 c = wrong-header _ _ (sym (c .before .before .read-header .ensures) ∙ c .enum-told .given .1)
@@ -30,10 +15,10 @@ pub import-spec : {M : Type 1} → statement M
 import-spec =
     tie.close
     (tie.spec
-    read-header-requires
-    enum-known-cells
+    (λ c κs. search needs)
+    (λ c. search needs)
     import-lines-requires
-    enum-told
-    same-length
-    returns
+    (λ c. search needs)
+    (λ c. search needs)
+    (λ c. search needs)
     returns-2)

@@ -4,12 +4,6 @@ use Rattle.importer.proofs.Cards.{full, same-number, written}
 use Rattle.importer.proofs.importing.renumbered.Statement.{statement}
 use Rattle.importer.proofs.importing.renumbered.Tie as tie
 
-enum-known-answer : tie.Need-enum-known-answer
-enum-known-answer c = search needs
-
-enum-known-answer-2 : tie.Need-enum-known-answer-2
-enum-known-answer-2 c = search needs
-
 returns : tie.Need-returns
 returns c = written (c .before .before .before .args .answer) _ (c .before .answer .given .1)
 
@@ -21,4 +15,10 @@ returns-3 c = same-number (c .before .before .before .before .args .answer) _ _ 
 
 pub renumbered-spec : {M : Type 1} → statement M
 renumbered-spec =
-    tie.close (tie.spec enum-known-answer enum-known-answer-2 returns returns-2 returns-3)
+    tie.close
+    (tie.spec
+    (λ c. search needs)
+    (λ c. search needs)
+    returns
+    returns-2
+    returns-3)

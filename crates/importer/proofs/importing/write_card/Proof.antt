@@ -13,15 +13,6 @@ returns c = too-many _ _ _ _ (c .if1 .taken)
 slice-aggregate-write : tie.Need-slice-aggregate-write
 slice-aggregate-write c = sym (length-take-le _ _ (omega (arith, c .before .before .before .before .pre, c .before .if1 .left)))
 
-write-requires : tie.Need-write-requires
-write-requires c κs = search needs
-
-renumbered-requires : tie.Need-renumbered-requires
-renumbered-requires c κs = search needs
-
-same-length : tie.Need-same-length
-same-length c = search needs
-
 returns-2 : tie.Need-returns-2
 returns-2 c = wrote-card _ _ _ _ _ _ _ (c .before .before .before .before .before .before .if1 .left) (c .before .before .before .write .ensures) (c .renumbered .ensures)
 
@@ -31,7 +22,7 @@ write-card-spec =
     (tie.spec
     returns
     slice-aggregate-write
-    write-requires
-    renumbered-requires
-    same-length
+    (λ c κs. search needs)
+    (λ c κs. search needs)
+    (λ c. search needs)
     returns-2)

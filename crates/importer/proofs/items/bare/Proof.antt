@@ -5,17 +5,15 @@ use Rattle.importer.proofs.Spelling.{bare-is, needs-operand}
 use Rattle.importer.proofs.items.bare.Statement.{statement}
 use Rattle.importer.proofs.items.bare.Tie as tie
 
-has-operand-requires : tie.Need-has-operand-requires
-has-operand-requires c κs = search needs
-
 returns : tie.Need-returns
 returns c = needs-operand (c .before .before .args .opcode) (sym (c .before .has-operand .ensures) ∙ c .if1 .taken)
-
-mul-t3 : tie.Need-mul-t3
-mul-t3 c = search needs
 
 returns-2 : tie.Need-returns-2
 returns-2 c = bare-is (c .before .before .args .opcode) (sym (c .before .has-operand .ensures) ∙ c .if1 .left)
 
 pub bare-spec : {M : Type 1} → statement M
-bare-spec = tie.close (tie.spec has-operand-requires returns mul-t3 returns-2)
+bare-spec = tie.close (tie.spec
+    (λ c κs. search needs)
+    returns
+    (λ c. search needs)
+    returns-2)

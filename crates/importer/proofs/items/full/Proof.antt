@@ -10,29 +10,11 @@ use Rattle.importer.proofs.Spelling.{full-beyond, full-bits, full-wrong
 use Rattle.importer.proofs.items.full.Statement.{statement}
 use Rattle.importer.proofs.items.full.Tie as tie
 
-has-operand-requires : tie.Need-has-operand-requires
-has-operand-requires c κs = search needs
-
 returns : tie.Need-returns
 returns c = takes-none (c .before .before .before .args .opcode) (operandRead (now (c .before .before .before .args .word))) (sym (c .before .has-operand .ensures) ∙ not-true _ (c .if1 .taken))
 
-read-operand-requires : tie.Need-read-operand-requires
-read-operand-requires c κs = search needs
-
-enum-known-bits : tie.Need-enum-known-bits
-enum-known-bits c = search needs
-
-mul-t8 : tie.Need-mul-t8
-mul-t8 c = search needs
-
 add-t9 : tie.Need-add-t9
 add-t9 c = record { fits = omega (arith, bits-small (operandRead (now (c .before .before .before .before .before .before .before .args .word))) _ (sym (c .before .before .before .read-operand .ensures) ∙ c .before .bits .given .1), c .before .before .before .before .before .before .before .pre) }
-
-enum-told : tie.Need-enum-told
-enum-told c = search needs
-
-enum-told-2 : tie.Need-enum-told-2
-enum-told-2 c = search needs
 
 returns-2 : tie.Need-returns-2
 returns-2 c = full-bits (c .before .before .before .before .before .before .before .args .opcode) (sym (c .before .before .before .before .before .has-operand .ensures) ∙ not-false _ (c .before .before .before .before .if1 .left)) (operandRead (now (c .before .before .before .before .before .before .before .args .word))) _ (sym (c .before .before .before .read-operand .ensures) ∙ c .before .bits .given .1)
@@ -47,14 +29,14 @@ pub full-spec : {M : Type 1} → statement M
 full-spec =
     tie.close
     (tie.spec
-    has-operand-requires
+    (λ c κs. search needs)
     returns
-    read-operand-requires
-    enum-known-bits
-    mul-t8
+    (λ c κs. search needs)
+    (λ c. search needs)
+    (λ c. search needs)
     add-t9
-    enum-told
-    enum-told-2
+    (λ c. search needs)
+    (λ c. search needs)
     returns-2
     returns-3
     returns-4)

@@ -12,20 +12,8 @@ use Rattle.importer.proofs.Spelling.{bare-item, full-item, unknown}
 use Rattle.importer.proofs.items.read_item.Statement.{statement}
 use Rattle.importer.proofs.items.read_item.Tie as tie
 
-find-requires : tie.Need-find-requires
-find-requires c κs = search needs
-
 slice-aggregate-opcode-named : tie.Need-slice-aggregate-opcode-named
 slice-aggregate-opcode-named c = sym (length-take-le _ _ (c .before .find .ensures .1))
-
-opcode-named-requires : tie.Need-opcode-named-requires
-opcode-named-requires c κs = search needs
-
-enum-known-opcode : tie.Need-enum-known-opcode
-enum-known-opcode c = search needs
-
-enum-told : tie.Need-enum-told
-enum-told c = search needs
 
 returns : tie.Need-returns
 returns c =
@@ -40,18 +28,6 @@ returns-2 c =
     let name = sym (c .before .before .before .before .before .opcode-named .ensures) ∙ c .before .before .before .opcode .given .1 in
     c .bare .ensures ∙ ap codedEntry (bare-item (now (c .before .before .before .before .before .before .before .before .before .args .rest)) (c .before .before .before .before .before .before .before .find .result) (c .before .before .before .before .before .before .before .find .ensures .0) _ (c .before .if1 .taken) name)
 
-add-full : tie.Need-add-full
-add-full c = search needs
-
-sub-full : tie.Need-sub-full
-sub-full c = search needs
-
-part-full-start : tie.Need-part-full-start
-part-full-start c = search needs
-
-part-full-end : tie.Need-part-full-end
-part-full-end c = search needs
-
 full-requires : tie.Need-full-requires
 full-requires c κs = named-is _ _ (sym (c .before .before .before .before .before .opcode-named .ensures) ∙ c .before .before .before .opcode .given .1) .0
 
@@ -65,17 +41,17 @@ pub read-item-spec : {M : Type 1} → statement M
 read-item-spec =
     tie.close
     (tie.spec
-    find-requires
+    (λ c κs. search needs)
     slice-aggregate-opcode-named
-    opcode-named-requires
-    enum-known-opcode
-    enum-told
+    (λ c κs. search needs)
+    (λ c. search needs)
+    (λ c. search needs)
     returns
     bare-requires
     returns-2
-    add-full
-    sub-full
-    part-full-start
-    part-full-end
+    (λ c. search needs)
+    (λ c. search needs)
+    (λ c. search needs)
+    (λ c. search needs)
     full-requires
     returns-3)

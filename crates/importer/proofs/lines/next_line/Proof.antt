@@ -10,32 +10,8 @@ use Rattle.importer.proofs.Following.{line-whole, next-at}
 use Rattle.importer.proofs.lines.next_line.Statement.{statement}
 use Rattle.importer.proofs.lines.next_line.Tie as tie
 
-find-requires : tie.Need-find-requires
-find-requires c κs = search needs
-
 returns : tie.Need-returns
 returns c = sym (ap (nextRead (c .before .before .before .args .index) (c .before .before .before .args .at)) (line-whole (now (c .before .before .before .args .text)) (c .before .before .before .args .at) (c .before .find .result) (c .before .find .ensures .0) (c .if1 .taken)))
-
-sub-read-line : tie.Need-sub-read-line
-sub-read-line c = search needs
-
-part-read-line-start : tie.Need-part-read-line-start
-part-read-line-start c = search needs
-
-part-read-line-end : tie.Need-part-read-line-end
-part-read-line-end c = search needs
-
-read-line-requires : tie.Need-read-line-requires
-read-line-requires c κs = search needs
-
-enum-known-word : tie.Need-enum-known-word
-enum-known-word c = search needs
-
-add-t14 : tie.Need-add-t14
-add-t14 c = search needs
-
-enum-known-number : tie.Need-enum-known-number
-enum-known-number c = search needs
 
 returns-2 : tie.Need-returns-2
 returns-2 c =
@@ -51,14 +27,14 @@ pub next-line-spec : {M : Type 1} → statement M
 next-line-spec =
     tie.close
     (tie.spec
-    find-requires
+    (λ c κs. search needs)
     returns
-    sub-read-line
-    part-read-line-start
-    part-read-line-end
-    read-line-requires
-    enum-known-word
-    add-t14
-    enum-known-number
+    (λ c. search needs)
+    (λ c. search needs)
+    (λ c. search needs)
+    (λ c κs. search needs)
+    (λ c. search needs)
+    (λ c. search needs)
+    (λ c. search needs)
     returns-2
     returns-3)

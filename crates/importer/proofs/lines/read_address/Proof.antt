@@ -10,9 +10,6 @@ use Rattle.importer.proofs.lines.read_address.Tie as tie
 returns : tie.Need-returns
 returns c = other-length (now (c .before .before .args .word)) (c .if1 .taken)
 
-all-digits-requires : tie.Need-all-digits-requires
-all-digits-requires c κs = search needs
-
 returns-2 : tie.Need-returns-2
 returns-2 c = no-digits (now (c .before .before .before .before .args .word)) (c .before .before .if1 .left) (sym (c .before .all-digits .ensures) ∙ not-true _ (c .if2 .taken))
 
@@ -24,4 +21,10 @@ returns-3 c = four-digits (now (c .before .before .before .before .before .args 
 
 pub read-address-spec : {M : Type 1} → statement M
 read-address-spec =
-    tie.close (tie.spec returns all-digits-requires returns-2 value-requires returns-3)
+    tie.close
+    (tie.spec
+    returns
+    (λ c κs. search needs)
+    returns-2
+    value-requires
+    returns-3)

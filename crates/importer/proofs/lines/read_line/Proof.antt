@@ -12,41 +12,11 @@ use Rattle.importer.proofs.Spelling.{line-right, line-wrong, lone, uncu
 use Rattle.importer.proofs.lines.read_line.Statement.{statement}
 use Rattle.importer.proofs.lines.read_line.Tie as tie
 
-find-requires : tie.Need-find-requires
-find-requires c κs = search needs
-
 returns : tie.Need-returns
 returns c = sym (ap (λ (l : Line). codedLine l (c .before .before .before .args .index)) (ap lineRead (uncut 32 (now (c .before .before .before .args .line)) (c .before .find .result) (c .before .find .ensures .0) (c .if1 .taken)) ∙ lone _))
 
-add-read-item : tie.Need-add-read-item
-add-read-item c = search needs
-
-sub-read-item : tie.Need-sub-read-item
-sub-read-item c = search needs
-
-part-read-item-start : tie.Need-part-read-item-start
-part-read-item-start c = search needs
-
-part-read-item-end : tie.Need-part-read-item-end
-part-read-item-end c = search needs
-
-read-item-requires : tie.Need-read-item-requires
-read-item-requires c κs = search needs
-
-enum-told : tie.Need-enum-told
-enum-told c = search needs
-
-enum-known-word : tie.Need-enum-known-word
-enum-known-word c = search needs
-
 slice-aggregate-read-address : tie.Need-slice-aggregate-read-address
 slice-aggregate-read-address c = sym (length-take-le _ _ (c .before .before .before .before .before .before .before .find .ensures .1))
-
-read-address-requires : tie.Need-read-address-requires
-read-address-requires c κs = search needs
-
-placed-requires : tie.Need-placed-requires
-placed-requires c κs = search needs
 
 returns-2 : tie.Need-returns-2
 returns-2 c =
@@ -64,17 +34,17 @@ pub read-line-spec : {M : Type 1} → statement M
 read-line-spec =
     tie.close
     (tie.spec
-    find-requires
+    (λ c κs. search needs)
     returns
-    add-read-item
-    sub-read-item
-    part-read-item-start
-    part-read-item-end
-    read-item-requires
-    enum-told
-    enum-known-word
+    (λ c. search needs)
+    (λ c. search needs)
+    (λ c. search needs)
+    (λ c. search needs)
+    (λ c κs. search needs)
+    (λ c. search needs)
+    (λ c. search needs)
     slice-aggregate-read-address
-    read-address-requires
-    placed-requires
+    (λ c κs. search needs)
+    (λ c κs. search needs)
     returns-2
     returns-3)

@@ -21,23 +21,11 @@ loop-holds c = (begins _ _ _, omega arith, c .before .before .pre)
 next-line-requires : tie.Need-next-line-requires Inv-loop μ-loop
 next-line-requires c κs = c .loop-test .taken
 
-enum-known-number : tie.Need-enum-known-number Inv-loop μ-loop
-enum-known-number c = search needs
-
 same-length : tie.Need-same-length Inv-loop μ-loop
 same-length c = c .before .before .before .before .before .loop .inv .0 .long
 
 returns : tie.Need-returns Inv-loop μ-loop
 returns c = let r = stopped (c .before .before .before .before .before .loop .inv .0) _ _ (c .before .before .before .before .loop-test .taken) (sym (c .before .before .before .next-line .ensures) ∙ c .before .number .given .1) in (r .answered, r .kept)
-
-enum-known-word : tie.Need-enum-known-word Inv-loop μ-loop
-enum-known-word c = search needs
-
-store-requires : tie.Need-store-requires Inv-loop μ-loop
-store-requires c κs = search needs
-
-add-index : tie.Need-add-index Inv-loop μ-loop
-add-index c = search needs
 
 loop-less : tie.Need-loop-less Inv-loop μ-loop
 loop-less c = let s = goes-on (now (c .before .before .before .before .before .before .before .before .before .before .before .before .args .text)) (c .before .before .before .before .before .before .before .before .before .loop .index) (c .before .before .before .before .before .before .before .before .before .loop .at) (c .before .before .before .before .before .before .before .before .loop-test .taken) _ _ (sym (c .before .before .before .before .before .before .before .next-line .ensures) ∙ c .before .before .before .before .before .word .given .1) in omega (arith, s .further, s .inside)
@@ -61,12 +49,12 @@ read-lines-spec =
     μ-loop
     loop-holds
     next-line-requires
-    enum-known-number
+    (λ c. search needs)
     same-length
     returns
-    enum-known-word
-    store-requires
-    add-index
+    (λ c. search needs)
+    (λ c κs. search needs)
+    (λ c. search needs)
     loop-less
     loop-again
     same-length-2

@@ -10,14 +10,13 @@ returns c = minus-zero _ (c .if1 .taken)
 returns-2 : tie.Need-returns-2
 returns-2 c = minus-beyond _ (c .before .if1 .left) (c .if2 .taken)
 
-cast-t3 : tie.Need-cast-t3
-cast-t3 c = search needs
-
-sub-t4 : tie.Need-sub-t4
-sub-t4 c = search needs
-
 returns-3 : tie.Need-returns-3
 returns-3 c = minus-within _ (c .before .if1 .left) (c .if2 .left)
 
 pub below-zero-spec : {M : Type 1} → statement M
-below-zero-spec = tie.close (tie.spec returns returns-2 cast-t3 sub-t4 returns-3)
+below-zero-spec = tie.close (tie.spec
+    returns
+    returns-2
+    (λ c. search needs)
+    (λ c. search needs)
+    returns-3)

@@ -7,11 +7,11 @@ use Rattle.importer.proofs.operands.from_zero.Tie as tie
 returns : tie.Need-returns
 returns c = beyond _ (c .if1 .taken)
 
-cast-t3 : tie.Need-cast-t3
-cast-t3 c = search needs
-
 returns-2 : tie.Need-returns-2
 returns-2 c = within _ (c .if1 .left)
 
 pub from-zero-spec : {M : Type 1} → statement M
-from-zero-spec = tie.close (tie.spec returns cast-t3 returns-2)
+from-zero-spec = tie.close (tie.spec
+    returns
+    (λ c. search needs)
+    returns-2)

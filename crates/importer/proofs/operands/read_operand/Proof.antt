@@ -12,26 +12,8 @@ use Rattle.importer.proofs.operands.read_operand.Tie as tie
 returns : tie.Need-returns
 returns c = no-operand _ (c .if1 .taken)
 
-shared-slice-read-if2 : tie.Need-shared-slice-read-if2
-shared-slice-read-if2 c = search needs
-
-sub-read-minus : tie.Need-sub-read-minus
-sub-read-minus c = search needs
-
-part-read-minus-start : tie.Need-part-read-minus-start
-part-read-minus-start c = search needs
-
-part-read-minus-end : tie.Need-part-read-minus-end
-part-read-minus-end c = search needs
-
-read-minus-requires : tie.Need-read-minus-requires
-read-minus-requires c κs = search needs
-
 returns-2 : tie.Need-returns-2
 returns-2 c = c .read-minus .ensures ∙ ap codedOperand (ap minusRead (rest 1 (now (c .before .before .before .before .before .before .args .word))) ∙ first-minus (now (c .before .before .before .before .before .before .args .word)) (c .before .before .before .before .if1 .left) (c .before .before .if2 .taken))
-
-read-plain-requires : tie.Need-read-plain-requires
-read-plain-requires c κs = search needs
 
 returns-3 : tie.Need-returns-3
 returns-3 c = c .read-plain .ensures ∙ ap codedOperand (first-other _ (c .before .before .before .if1 .left) (c .before .if2 .left))
@@ -41,11 +23,11 @@ read-operand-spec =
     tie.close
     (tie.spec
     returns
-    shared-slice-read-if2
-    sub-read-minus
-    part-read-minus-start
-    part-read-minus-end
-    read-minus-requires
+    (λ c. search needs)
+    (λ c. search needs)
+    (λ c. search needs)
+    (λ c. search needs)
+    (λ c κs. search needs)
     returns-2
-    read-plain-requires
+    (λ c κs. search needs)
     returns-3)

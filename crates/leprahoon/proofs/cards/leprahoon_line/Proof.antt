@@ -5,15 +5,6 @@ use Rattle.card.specs.Result.{valueOf}
 use Rattle.leprahoon.proofs.cards.leprahoon_line.Statement.{statement}
 use Rattle.leprahoon.proofs.cards.leprahoon_line.Tie as tie
 
-runner-line-requires : tie.Need-runner-line-requires
-runner-line-requires c κs = search needs
-
-length-of-requires : tie.Need-length-of-requires
-length-of-requires c κs = search needs
-
-same-length : tie.Need-same-length
-same-length c = search needs
-
 returns : tie.Need-returns
 returns c =
     let p = c .before .before .before .runner-line .ensures in
@@ -24,4 +15,9 @@ returns c =
 
 pub leprahoon-line-spec : {M : Type 1} → statement M
 leprahoon-line-spec =
-    tie.close (tie.spec runner-line-requires length-of-requires same-length returns)
+    tie.close
+    (tie.spec
+    (λ c κs. search needs)
+    (λ c κs. search needs)
+    (λ c. search needs)
+    returns)

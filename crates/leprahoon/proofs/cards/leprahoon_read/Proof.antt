@@ -5,14 +5,11 @@ use Rattle.card.specs.Result.{reportOf}
 use Rattle.leprahoon.proofs.cards.leprahoon_read.Statement.{statement}
 use Rattle.leprahoon.proofs.cards.leprahoon_read.Tie as tie
 
-read-requires : tie.Need-read-requires
-read-requires c κs = search needs
-
-list-of-reading-requires : tie.Need-list-of-reading-requires
-list-of-reading-requires c κs = search needs
-
 returns : tie.Need-returns
 returns c = c .list-of-reading .ensures ∙ ap reportOf (c .before .read .ensures)
 
 pub leprahoon-read-spec : {M : Type 1} → statement M
-leprahoon-read-spec = tie.close (tie.spec read-requires list-of-reading-requires returns)
+leprahoon-read-spec = tie.close (tie.spec
+    (λ c κs. search needs)
+    (λ c κs. search needs)
+    returns)

@@ -5,15 +5,6 @@ use Rattle.card.specs.Result.{reportOf}
 use Rattle.leprahoon.proofs.cards.leprahoon_write.Statement.{statement}
 use Rattle.leprahoon.proofs.cards.leprahoon_write.Tie as tie
 
-write-requires : tie.Need-write-requires
-write-requires c κs = search needs
-
-list-of-writing-requires : tie.Need-list-of-writing-requires
-list-of-writing-requires c κs = search needs
-
-same-length : tie.Need-same-length
-same-length c = search needs
-
 returns : tie.Need-returns
 returns c =
     record {
@@ -23,4 +14,9 @@ returns c =
 
 pub leprahoon-write-spec : {M : Type 1} → statement M
 leprahoon-write-spec =
-    tie.close (tie.spec write-requires list-of-writing-requires same-length returns)
+    tie.close
+    (tie.spec
+    (λ c κs. search needs)
+    (λ c κs. search needs)
+    (λ c. search needs)
+    returns)

@@ -5,15 +5,6 @@ use Rattle.card.specs.Result.{reportOf}
 use Rattle.leprahoon.proofs.texts.leprahoon_import.Statement.{statement}
 use Rattle.leprahoon.proofs.texts.leprahoon_import.Tie as tie
 
-import-requires : tie.Need-import-requires
-import-requires c κs = search needs
-
-list-of-importing-requires : tie.Need-list-of-importing-requires
-list-of-importing-requires c κs = search needs
-
-same-length : tie.Need-same-length
-same-length c = search needs
-
 returns : tie.Need-returns
 returns c =
     record {
@@ -23,4 +14,9 @@ returns c =
 
 pub leprahoon-import-spec : {M : Type 1} → statement M
 leprahoon-import-spec =
-    tie.close (tie.spec import-requires list-of-importing-requires same-length returns)
+    tie.close
+    (tie.spec
+    (λ c κs. search needs)
+    (λ c κs. search needs)
+    (λ c. search needs)
+    returns)

@@ -5,15 +5,6 @@ use Rattle.card.specs.Result.{reportOf}
 use Rattle.leprahoon.proofs.texts.leprahoon_list.Statement.{statement}
 use Rattle.leprahoon.proofs.texts.leprahoon_list.Tie as tie
 
-list-line-requires : tie.Need-list-line-requires
-list-line-requires c κs = search needs
-
-list-of-listing-requires : tie.Need-list-of-listing-requires
-list-of-listing-requires c κs = search needs
-
-same-length : tie.Need-same-length
-same-length c = search needs
-
 returns : tie.Need-returns
 returns c =
     record {
@@ -23,4 +14,9 @@ returns c =
 
 pub leprahoon-list-spec : {M : Type 1} → statement M
 leprahoon-list-spec =
-    tie.close (tie.spec list-line-requires list-of-listing-requires same-length returns)
+    tie.close
+    (tie.spec
+    (λ c κs. search needs)
+    (λ c κs. search needs)
+    (λ c. search needs)
+    returns)

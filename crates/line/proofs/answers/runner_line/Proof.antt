@@ -14,20 +14,8 @@ returns c = shut (c .if1 .taken)
 slice-aggregate-put-line : tie.Need-slice-aggregate-put-line
 slice-aggregate-put-line c = sym (length-take-le {A = ℕ} 16394 (c .before .before .before .before .before .args .input .now) (le-of-lt (c .before .if2 .taken)))
 
-put-line-requires : tie.Need-put-line-requires
-put-line-requires c κs = search needs
-
-same-length : tie.Need-same-length
-same-length c = search needs
-
 returns-2 : tie.Need-returns-2
 returns-2 c = printed (judged-line _ refl) (c .before .before .before .before .before .before .if1 .left) (c .before .before .put-line .ensures .0) (c .before .before .put-line .ensures .1)
-
-put-line-requires-2 : tie.Need-put-line-requires-2
-put-line-requires-2 c κs = search needs
-
-same-length-2 : tie.Need-same-length-2
-same-length-2 c = search needs
 
 returns-3 : tie.Need-returns-3
 returns-3 c = printed (judged-line _ (take-all _ _ (c .before .before .before .before .if2 .left))) (c .before .before .before .before .before .if1 .left) (c .before .before .put-line2 .ensures .0) (c .before .before .put-line2 .ensures .1)
@@ -38,9 +26,9 @@ runner-line-spec =
     (tie.spec
     returns
     slice-aggregate-put-line
-    put-line-requires
-    same-length
+    (λ c κs. search needs)
+    (λ c. search needs)
     returns-2
-    put-line-requires-2
-    same-length-2
+    (λ c κs. search needs)
+    (λ c. search needs)
     returns-3)

@@ -8,29 +8,11 @@ use Rattle.text.proofs.Lines.{of}
 use Rattle.line.proofs.words.put_result.Statement.{statement}
 use Rattle.line.proofs.words.put_result.Tie as tie
 
-has-ended-requires : tie.Need-has-ended-requires
-has-ended-requires c κs = search needs
-
-read-requires : tie.Need-read-requires
-read-requires c κs = search needs
-
-put-signed-requires : tie.Need-put-signed-requires
-put-signed-requires c κs = search needs
-
-put-byte-requires : tie.Need-put-byte-requires
-put-byte-requires c κs = search needs
-
-same-length : tie.Need-same-length
-same-length c = search needs
-
 returns : tie.Need-returns
 returns c =
     let v = c .before .before .before .read in
     let read = toZ-ofZ (sfits-of {w = w32} {z = v .result} (v .ok)) ∙ v .ensures in
     (rw (sym (c .before .before .before .before .before .before .has-ended .ensures) ∙ c .before .before .before .before .before .if1 .taken) (of (ap signed read) (c .before .before .put-signed .ensures .0)), search needs)
-
-same-length-2 : tie.Need-same-length-2
-same-length-2 c = search needs
 
 returns-2 : tie.Need-returns-2
 returns-2 c = (rw (sym (c .before .before .before .before .before .has-ended .ensures) ∙ c .before .before .before .before .if1 .left) (c .before .before .put-byte .ensures), search needs)
@@ -39,11 +21,11 @@ pub put-result-spec : {M : Type 1} → statement M
 put-result-spec =
     tie.close
     (tie.spec
-    has-ended-requires
-    read-requires
-    put-signed-requires
-    put-byte-requires
-    same-length
+    (λ c κs. search needs)
+    (λ c κs. search needs)
+    (λ c κs. search needs)
+    (λ c κs. search needs)
+    (λ c. search needs)
     returns
-    same-length-2
+    (λ c. search needs)
     returns-2)

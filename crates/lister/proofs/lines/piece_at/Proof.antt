@@ -5,29 +5,11 @@ use Rattle.lister.proofs.Spelled.{content-piece, end-piece, start-piece
 use Rattle.lister.proofs.lines.piece_at.Statement.{statement}
 use Rattle.lister.proofs.lines.piece_at.Tie as tie
 
-put-start-requires : tie.Need-put-start-requires
-put-start-requires c κs = search needs
-
-same-length : tie.Need-same-length
-same-length c = search needs
-
 returns : tie.Need-returns
 returns c = (of (start-piece _ _ (c .before .before .before .before .before .before .args .content) (c .before .before .before .before .if1 .taken)) (c .before .before .put-start .ensures .0), search needs)
 
-put-content-requires : tie.Need-put-content-requires
-put-content-requires c κs = search needs
-
-same-length-2 : tie.Need-same-length-2
-same-length-2 c = search needs
-
 returns-2 : tie.Need-returns-2
 returns-2 c = (of (content-piece _ _ _ (c .before .before .before .before .if2 .taken)) (c .before .before .put-content .ensures .0), c .before .before .put-content .ensures .1)
-
-put-byte-requires : tie.Need-put-byte-requires
-put-byte-requires c κs = search needs
-
-same-length-3 : tie.Need-same-length-3
-same-length-3 c = search needs
 
 returns-3 : tie.Need-returns-3
 returns-3 c = (of (end-piece _ (c .before .before .before .before .before .before .before .args .line) (c .before .before .before .before .before .before .before .args .content) (c .before .before .before .before .before .if1 .left) (c .before .before .before .before .if2 .left)) (c .before .before .put-byte .ensures), search needs)
@@ -36,12 +18,12 @@ pub piece-at-spec : {M : Type 1} → statement M
 piece-at-spec =
     tie.close
     (tie.spec
-    put-start-requires
-    same-length
+    (λ c κs. search needs)
+    (λ c. search needs)
     returns
-    put-content-requires
-    same-length-2
+    (λ c κs. search needs)
+    (λ c. search needs)
     returns-2
-    put-byte-requires
-    same-length-3
+    (λ c κs. search needs)
+    (λ c. search needs)
     returns-3)

@@ -17,26 +17,8 @@ use Rattle.lister.proofs.Spelled.{no-operand}
 use Rattle.lister.proofs.lines.put_operand.Statement.{statement}
 use Rattle.lister.proofs.lines.put_operand.Tie as tie
 
-opcode-requires : tie.Need-opcode-requires
-opcode-requires c κs = search needs
-
-has-operand-requires : tie.Need-has-operand-requires
-has-operand-requires c κs = search needs
-
 returns : tie.Need-returns
 returns c = (no-operand (c .before .before .before .before .args .w) _ _ (sym (c .before .has-operand .ensures ∙ ap (λ (k : ℕ). hasOperand (ruleOf k)) (c .before .before .opcode .ensures)) ∙ not-true _ (c .if1 .taken)), omega arith)
-
-put-byte-requires : tie.Need-put-byte-requires
-put-byte-requires c κs = search needs
-
-operand-requires : tie.Need-operand-requires
-operand-requires c κs = search needs
-
-put-signed-requires : tie.Need-put-signed-requires
-put-signed-requires c κs = search needs
-
-same-length : tie.Need-same-length
-same-length c = search needs
 
 returns-2 : tie.Need-returns-2
 returns-2 c =
@@ -49,11 +31,11 @@ pub put-operand-spec : {M : Type 1} → statement M
 put-operand-spec =
     tie.close
     (tie.spec
-    opcode-requires
-    has-operand-requires
+    (λ c κs. search needs)
+    (λ c κs. search needs)
     returns
-    put-byte-requires
-    operand-requires
-    put-signed-requires
-    same-length
+    (λ c κs. search needs)
+    (λ c κs. search needs)
+    (λ c κs. search needs)
+    (λ c. search needs)
     returns-2)

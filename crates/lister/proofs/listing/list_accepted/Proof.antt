@@ -7,23 +7,8 @@ use Rattle.lister.proofs.Listed.{copied, no-room, past}
 use Rattle.lister.proofs.listing.list_accepted.Statement.{statement}
 use Rattle.lister.proofs.listing.list_accepted.Tie as tie
 
-half-at-requires : tie.Need-half-at-requires
-half-at-requires c κs = search needs
-
-cast-n : tie.Need-cast-n
-cast-n c = search needs
-
 returns : tie.Need-returns
 returns c = past _ _ _ (rw (c .before .half-at .ensures .0) at (c .if1 .taken))
-
-slice-aggregate-put-one : tie.Need-slice-aggregate-put-one
-slice-aggregate-put-one c = search needs
-
-content-of-requires : tie.Need-content-of-requires
-content-of-requires c κs = search needs
-
-put-one-requires : tie.Need-put-one-requires
-put-one-requires c κs = search needs
 
 returns-2 : tie.Need-returns-2
 returns-2 c = no-room _ _ _ _ _ (rw (c .before .before .before .before .before .before .half-at .ensures .0) at (c .before .before .before .before .before .if1 .left)) (c .before .before .before .content-of .ensures) (c .before .before .put-one .ensures .0) (c .if2 .taken)
@@ -37,9 +22,6 @@ slice-aggregate-put-bytes c = sym (length-take-le _ _ (array-share-prefix-text (
 put-bytes-requires : tie.Need-put-bytes-requires
 put-bytes-requires c κs = omega (arith, slice-aggregate-put-bytes c, c .before .before .if2 .left)
 
-same-length : tie.Need-same-length
-same-length c = search needs
-
 returns-3 : tie.Need-returns-3
 returns-3 c = copied _ _ _ _ _ (rw (c .before .before .before .before .before .before .before .before .before .before .before .half-at .ensures .0) at (c .before .before .before .before .before .before .before .before .before .before .if1 .left)) (c .before .before .before .before .before .before .before .before .content-of .ensures) (c .before .before .before .before .before .before .before .put-one .ensures .0) (c .before .before .before .before .before .if2 .left) (c .before .before .before .before .before .before .before .put-one .ensures .1) (c .before .before .put-bytes .ensures)
 
@@ -47,15 +29,15 @@ pub list-accepted-spec : {M : Type 1} → statement M
 list-accepted-spec =
     tie.close
     (tie.spec
-    half-at-requires
-    cast-n
+    (λ c κs. search needs)
+    (λ c. search needs)
     returns
-    slice-aggregate-put-one
-    content-of-requires
-    put-one-requires
+    (λ c. search needs)
+    (λ c κs. search needs)
+    (λ c κs. search needs)
     returns-2
     array-share-prefix-text
     slice-aggregate-put-bytes
     put-bytes-requires
-    same-length
+    (λ c. search needs)
     returns-3)

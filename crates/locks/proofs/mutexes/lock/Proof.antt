@@ -11,38 +11,17 @@ use Rattle.locks.specs.Numbers.{mutexNamed}
 use Rattle.locks.proofs.mutexes.lock.Statement.{statement}
 use Rattle.locks.proofs.mutexes.lock.Tie as tie
 
-a-mutex-requires : tie.Need-a-mutex-requires
-a-mutex-requires c κs = search needs
-
-enum-known-number : tie.Need-enum-known-number
-enum-known-number c = search needs
-
-stop-requires : tie.Need-stop-requires
-stop-requires c κs = search needs
-
-enum-known-m : tie.Need-enum-known-m
-enum-known-m c = search needs
-
 popped-requires : tie.Need-popped-requires
 popped-requires c κs = let there = passed _ _ _ _ _ _ _ (c .before .before .before .a-mutex .ensures ∙ ap mutexNamed (c .before .m .given .1)) in (c .before .before .before .before .before .pre .0 .pc, there .enough)
 
 owner-requires : tie.Need-owner-requires
 owner-requires c κs = let there = passed _ _ _ _ _ _ _ (c .before .before .before .before .before .a-mutex .ensures ∙ ap mutexNamed (c .before .before .before .m .given .1)) in (c .before .before .before .before .before .before .before .pre .1 .0, omega (arith, there .below, c .before .before .before .before .before .before .before .pre .1 .1 .0 .mutexes))
 
-enum-told : tie.Need-enum-told
-enum-told c = search needs
-
-enum-told-2 : tie.Need-enum-told-2
-enum-told-2 c = search needs
-
 at-mutex-requires : tie.Need-at-mutex-requires
 at-mutex-requires c κs = let there = passed _ _ _ _ _ _ _ (c .before .before .before .before .before .before .before .before .before .a-mutex .ensures ∙ ap mutexNamed (c .before .before .before .before .before .before .before .m .given .1)) in omega (arith, there .below, c .before .before .before .before .before .before .before .before .before .before .before .pre .1 .1 .0 .mutexes, c .before .before .before .before .before .before .before .before .before .before .before .pre .0 .small)
 
 block-requires : tie.Need-block-requires
 block-requires c κs = rw (c .before .before .before .before .before .before .popped .ensures) (c .before .before .before .before .before .before .before .before .before .before .before .before .pre .1 .0, (c .before .before .before .before .before .before .before .before .before .before .before .before .pre .0 .thread, c .before .before .before .before .before .before .before .before .before .before .before .before .pre .1 .1 .1))
-
-same-length : tie.Need-same-length
-same-length c = search needs
 
 returns : tie.Need-returns
 returns c n values =
@@ -55,9 +34,6 @@ own-requires c κs = let there = passed _ _ _ _ _ _ _ (c .before .before .before
 returns-2 : tie.Need-returns-2
 returns-2 c n values = rw (c .stop .ensures) (faults _ n _ _ _ (lock-is _ n _ ∙ stops _ _ _ _ _ _ _ _ (c .before .before .before .before .a-mutex .ensures ∙ ap mutexNamed (c .before .before .number .given .1))))
 
-same-length-2 : tie.Need-same-length-2
-same-length-2 c = search needs
-
 returns-3 : tie.Need-returns-3
 returns-3 c n values =
     rw (c .before .before .before .before .before .before .before .before .popped .ensures, c .before .before .own .ensures .is)
@@ -67,19 +43,19 @@ pub lock-spec : {M : Type 1} → statement M
 lock-spec =
     tie.close
     (tie.spec
-    a-mutex-requires
-    enum-known-number
-    stop-requires
-    enum-known-m
+    (λ c κs. search needs)
+    (λ c. search needs)
+    (λ c κs. search needs)
+    (λ c. search needs)
     popped-requires
     owner-requires
-    enum-told
-    enum-told-2
+    (λ c. search needs)
+    (λ c. search needs)
     at-mutex-requires
     block-requires
-    same-length
+    (λ c. search needs)
     returns
     own-requires
     returns-2
-    same-length-2
+    (λ c. search needs)
     returns-3)

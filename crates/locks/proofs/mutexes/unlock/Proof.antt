@@ -10,26 +10,8 @@ use Rattle.locks.proofs.Owners.{owns-it, owns-not}
 use Rattle.locks.proofs.mutexes.unlock.Statement.{statement}
 use Rattle.locks.proofs.mutexes.unlock.Tie as tie
 
-a-mutex-requires : tie.Need-a-mutex-requires
-a-mutex-requires c κs = search needs
-
-enum-known-number : tie.Need-enum-known-number
-enum-known-number c = search needs
-
-stop-requires : tie.Need-stop-requires
-stop-requires c κs = search needs
-
-enum-known-m : tie.Need-enum-known-m
-enum-known-m c = search needs
-
 owns-requires : tie.Need-owns-requires
 owns-requires c κs = let there = passed _ _ _ _ _ _ _ (c .before .before .before .before .a-mutex .ensures ∙ ap mutexNamed (c .before .before .m .given .1)) in (c .before .before .before .before .before .before .pre .1 .0, (c .before .before .before .before .before .before .pre .0 .thread, omega (arith, there .below, c .before .before .before .before .before .before .pre .1 .1 .0 .mutexes)))
-
-stop-requires-2 : tie.Need-stop-requires-2
-stop-requires-2 c κs = search needs
-
-same-length : tie.Need-same-length
-same-length c = search needs
 
 returns : tie.Need-returns
 returns c n values =
@@ -45,9 +27,6 @@ popped-requires c κs = let there = passed _ _ _ _ _ _ _ (c .before .before .bef
 returns-2 : tie.Need-returns-2
 returns-2 c n values = rw (c .stop .ensures) (faults _ n _ _ _ (unlock-is _ n _ ∙ stops _ _ _ _ _ _ _ _ (c .before .before .before .before .a-mutex .ensures ∙ ap mutexNamed (c .before .before .number .given .1))))
 
-same-length-2 : tie.Need-same-length-2
-same-length-2 c = search needs
-
 returns-3 : tie.Need-returns-3
 returns-3 c n values =
     rw (c .popped .ensures, c .before .before .before .unlock-mutex .ensures .is)
@@ -57,16 +36,16 @@ pub unlock-spec : {M : Type 1} → statement M
 unlock-spec =
     tie.close
     (tie.spec
-    a-mutex-requires
-    enum-known-number
-    stop-requires
-    enum-known-m
+    (λ c κs. search needs)
+    (λ c. search needs)
+    (λ c κs. search needs)
+    (λ c. search needs)
     owns-requires
-    stop-requires-2
-    same-length
+    (λ c κs. search needs)
+    (λ c. search needs)
     returns
     unlock-mutex-requires
     popped-requires
     returns-2
-    same-length-2
+    (λ c. search needs)
     returns-3)

@@ -8,23 +8,8 @@ use Rattle.locks.proofs.Owners.{freed, passed-on}
 use Rattle.locks.proofs.mutexes.unlock_mutex.Statement.{statement}
 use Rattle.locks.proofs.mutexes.unlock_mutex.Tie as tie
 
-at-mutex-requires : tie.Need-at-mutex-requires
-at-mutex-requires c κs = search needs
-
 dequeue-requires : tie.Need-dequeue-requires
 dequeue-requires c κs = rw (c .at-mutex .ensures) (c .before .before .before .pre .0, idle-behind _ (atMutex (c .before .before .before .args .m .0)) (c .before .before .before .args .skip) (c .before .before .before .pre .1 .1) (omega arith))
-
-enum-known-t : tie.Need-enum-known-t
-enum-known-t c = search needs
-
-enum-told : tie.Need-enum-told
-enum-told c = search needs
-
-own-requires : tie.Need-own-requires
-own-requires c κs = search needs
-
-same-length : tie.Need-same-length
-same-length c = search needs
 
 returns : tie.Need-returns
 returns c =
@@ -35,14 +20,8 @@ returns c =
       good = c .before .before .own .ensures .good;
     }
 
-own-requires-2 : tie.Need-own-requires-2
-own-requires-2 c κs = search needs
-
 make-ready-requires : tie.Need-make-ready-requires
 make-ready-requires c κs = (c .before .before .before .own2 .ensures .good, c .before .before .before .before .before .before .before .before .before .before .dequeue .ensures .real _ (c .before .before .before .before .before .before .t .given .1))
-
-same-length-2 : tie.Need-same-length-2
-same-length-2 c = search needs
 
 returns-2 : tie.Need-returns-2
 returns-2 c =
@@ -58,14 +37,14 @@ pub unlock-mutex-spec : {M : Type 1} → statement M
 unlock-mutex-spec =
     tie.close
     (tie.spec
-    at-mutex-requires
+    (λ c κs. search needs)
     dequeue-requires
-    enum-known-t
-    enum-told
-    own-requires
-    same-length
+    (λ c. search needs)
+    (λ c. search needs)
+    (λ c κs. search needs)
+    (λ c. search needs)
     returns
-    own-requires-2
+    (λ c κs. search needs)
     make-ready-requires
-    same-length-2
+    (λ c. search needs)
     returns-2)

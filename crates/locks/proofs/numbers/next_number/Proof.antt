@@ -7,9 +7,6 @@ use mir.Facts.{toZ-pos}
 use Rattle.locks.proofs.numbers.next_number.Statement.{statement}
 use Rattle.locks.proofs.numbers.next_number.Tie as tie
 
-cast-result : tie.Need-cast-result
-cast-result c = search needs
-
 returns : tie.Need-returns
 returns c = rw (lt-ltb _ _ (c .if1 .taken)) (toZ-pos w32 (omega arith))
 
@@ -17,4 +14,7 @@ returns-2 : tie.Need-returns-2
 returns-2 c = rw (le-ltb _ _ (c .if1 .left))
 
 pub next-number-spec : {M : Type 1} → statement M
-next-number-spec = tie.close (tie.spec cast-result returns returns-2)
+next-number-spec = tie.close (tie.spec
+    (λ c. search needs)
+    returns
+    returns-2)

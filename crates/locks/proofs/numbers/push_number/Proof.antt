@@ -5,27 +5,6 @@ use mir.Syntax.{w32}
 use Rattle.locks.proofs.numbers.push_number.Statement.{statement}
 use Rattle.locks.proofs.numbers.push_number.Tie as tie
 
-mul-next-number : tie.Need-mul-next-number
-mul-next-number c = search needs
-
-next-number-requires : tie.Need-next-number-requires
-next-number-requires c κs = search needs
-
-poke-requires : tie.Need-poke-requires
-poke-requires c κs = search needs
-
-advance-requires : tie.Need-advance-requires
-advance-requires c κs = search needs
-
-add-with-cells : tie.Need-add-with-cells
-add-with-cells c = search needs
-
-with-cells-requires : tie.Need-with-cells-requires
-with-cells-requires c κs = search needs
-
-same-length : tie.Need-same-length
-same-length c = search needs
-
 returns : tie.Need-returns
 returns c =
     record {
@@ -37,11 +16,11 @@ pub push-number-spec : {M : Type 1} → statement M
 push-number-spec =
     tie.close
     (tie.spec
-    mul-next-number
-    next-number-requires
-    poke-requires
-    advance-requires
-    add-with-cells
-    with-cells-requires
-    same-length
+    (λ c. search needs)
+    (λ c κs. search needs)
+    (λ c κs. search needs)
+    (λ c κs. search needs)
+    (λ c. search needs)
+    (λ c κs. search needs)
+    (λ c. search needs)
     returns)

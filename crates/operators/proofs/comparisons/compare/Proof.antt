@@ -10,40 +10,10 @@ use Rattle.operators.proofs.Outcomes.{compare-is}
 use Rattle.operators.proofs.comparisons.compare.Statement.{statement}
 use Rattle.operators.proofs.comparisons.compare.Tie as tie
 
-stopped-requires : tie.Need-stopped-requires
-stopped-requires c κs = search needs
-
 returns : tie.Need-returns
 returns c n =
     rw (c .stopped .ensures)
     (refused λ tables values r. compare-is _ n _ _ _ (c .before .before .pre .1 .0) (c .before .before .pre .1 .1) ∙ needs-less 2 _ _ (omega (arith, c .before .if1 .taken)))
-
-peek-requires : tie.Need-peek-requires
-peek-requires c κs = search needs
-
-sub-peek : tie.Need-sub-peek
-sub-peek c = search needs
-
-peek-requires-2 : tie.Need-peek-requires-2
-peek-requires-2 c κs = search needs
-
-test-requires : tie.Need-test-requires
-test-requires c κs = search needs
-
-truth-requires : tie.Need-truth-requires
-truth-requires c κs = search needs
-
-poke-requires : tie.Need-poke-requires
-poke-requires c κs = search needs
-
-sub-t13 : tie.Need-sub-t13
-sub-t13 c = search needs
-
-done-requires : tie.Need-done-requires
-done-requires c κs = search needs
-
-same-length : tie.Need-same-length
-same-length c = search needs
 
 returns-2 : tie.Need-returns-2
 returns-2 c n =
@@ -54,15 +24,15 @@ pub compare-spec : {M : Type 1} → statement M
 compare-spec =
     tie.close
     (tie.spec
-    stopped-requires
+    (λ c κs. search needs)
     returns
-    peek-requires
-    sub-peek
-    peek-requires-2
-    test-requires
-    truth-requires
-    poke-requires
-    sub-t13
-    done-requires
-    same-length
+    (λ c κs. search needs)
+    (λ c. search needs)
+    (λ c κs. search needs)
+    (λ c κs. search needs)
+    (λ c κs. search needs)
+    (λ c κs. search needs)
+    (λ c. search needs)
+    (λ c κs. search needs)
+    (λ c. search needs)
     returns-2)

@@ -6,18 +6,6 @@ use borrow.Author.Needs.{needs}
 use Rattle.operators.proofs.comparisons.test.Statement.{statement}
 use Rattle.operators.proofs.comparisons.test.Tie as tie
 
-equal-requires : tie.Need-equal-requires
-equal-requires c κs = search needs
-
-equal-requires-2 : tie.Need-equal-requires-2
-equal-requires-2 c κs = search needs
-
-less-requires : tie.Need-less-requires
-less-requires c κs = search needs
-
-at-most-requires : tie.Need-at-most-requires
-at-most-requires c κs = search needs
-
 returns : tie.Need-returns
 unfolding tested
 returns c = rw (c .before .match .keys1) (rw (toZ-ofZ (c .before .before .fits .a), toZ-ofZ (c .before .before .fits .b)) at (c .equal .ensures))
@@ -38,10 +26,10 @@ pub test-spec : {M : Type 1} → statement M
 test-spec =
     tie.close
     (tie.spec
-    equal-requires
-    equal-requires-2
-    less-requires
-    at-most-requires
+    (λ c κs. search needs)
+    (λ c κs. search needs)
+    (λ c κs. search needs)
+    (λ c κs. search needs)
     returns
     returns-2
     returns-3

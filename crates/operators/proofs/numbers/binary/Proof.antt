@@ -49,31 +49,10 @@ outside c = fits-unless (c .before .before .compute .ok) (number (c .before .bef
 inside : (c : tie.Else3) → ltb (mag (result (c .before .before .before .before .before .before .before .before .before .before))) 2147483648 ≡ true
 inside c = fits-unless (c .before .before .compute .ok) (number (c .before .before)) (c .before .fits2 .ensures) (c .if3 .left)
 
-stopped-requires : tie.Need-stopped-requires
-stopped-requires c κs = search needs
-
 returns : tie.Need-returns
 returns c n =
     rw (c .stopped .ensures)
     (refused λ tables values r. binary-is _ n _ _ _ (c .before .before .pre .1 .0) (c .before .before .pre .1 .1) ∙ needs-less 2 _ _ (omega (arith, c .before .if1 .taken)))
-
-peek-requires : tie.Need-peek-requires
-peek-requires c κs = search needs
-
-sub-peek : tie.Need-sub-peek
-sub-peek c = search needs
-
-peek-requires-2 : tie.Need-peek-requires-2
-peek-requires-2 c κs = search needs
-
-lacks-divisor-requires : tie.Need-lacks-divisor-requires
-lacks-divisor-requires c κs = search needs
-
-stopped-requires-2 : tie.Need-stopped-requires-2
-stopped-requires-2 c κs = search needs
-
-same-length : tie.Need-same-length
-same-length c = search needs
 
 returns-2 : tie.Need-returns-2
 returns-2 c n =
@@ -84,15 +63,6 @@ compute-requires : tie.Need-compute-requires
 compute-requires c κs =
     (c .before .before .before .before .before .before .before .pre .1 .0, rw (read-back (c .before .before .peek2 .ok) (c .before .before .peek2 .ensures)) (not-lacking (c .before .before .before .before .before .before .before .args .op) (cell (c .before .before .before .before .before .before .before) 1) (there c)))
 
-fits-requires : tie.Need-fits-requires
-fits-requires c κs = search needs
-
-stopped-requires-3 : tie.Need-stopped-requires-3
-stopped-requires-3 c κs = search needs
-
-same-length-2 : tie.Need-same-length-2
-same-length-2 c = search needs
-
 returns-3 : tie.Need-returns-3
 returns-3 c n =
     rw (c .stopped3 .ensures)
@@ -100,18 +70,6 @@ returns-3 c n =
 
 cast-poke : tie.Need-cast-poke
 cast-poke c = narrows (c .before .before .before .compute .ok) (number (c .before .before .before)) (inside (c .before))
-
-poke-requires : tie.Need-poke-requires
-poke-requires c κs = search needs
-
-sub-t13 : tie.Need-sub-t13
-sub-t13 c = search needs
-
-done-requires : tie.Need-done-requires
-done-requires c κs = search needs
-
-same-length-3 : tie.Need-same-length-3
-same-length-3 c = search needs
 
 returns-4 : tie.Need-returns-4
 returns-4 c n =
@@ -122,23 +80,23 @@ pub binary-spec : {M : Type 1} → statement M
 binary-spec =
     tie.close
     (tie.spec
-    stopped-requires
+    (λ c κs. search needs)
     returns
-    peek-requires
-    sub-peek
-    peek-requires-2
-    lacks-divisor-requires
-    stopped-requires-2
-    same-length
+    (λ c κs. search needs)
+    (λ c. search needs)
+    (λ c κs. search needs)
+    (λ c κs. search needs)
+    (λ c κs. search needs)
+    (λ c. search needs)
     returns-2
     compute-requires
-    fits-requires
-    stopped-requires-3
-    same-length-2
+    (λ c κs. search needs)
+    (λ c κs. search needs)
+    (λ c. search needs)
     returns-3
     cast-poke
-    poke-requires
-    sub-t13
-    done-requires
-    same-length-3
+    (λ c κs. search needs)
+    (λ c. search needs)
+    (λ c κs. search needs)
+    (λ c. search needs)
     returns-4)

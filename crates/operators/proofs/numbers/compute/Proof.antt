@@ -8,15 +8,6 @@ use Rattle.operators.specs.Operators.{computed}
 use Rattle.operators.proofs.numbers.compute.Statement.{statement}
 use Rattle.operators.proofs.numbers.compute.Tie as tie
 
-sum-requires : tie.Need-sum-requires
-sum-requires c κs = search needs
-
-difference-requires : tie.Need-difference-requires
-difference-requires c κs = search needs
-
-product-requires : tie.Need-product-requires
-product-requires c κs = search needs
-
 quotient-requires : tie.Need-quotient-requires
 quotient-requires c κs = rw (toZ-ofZ (c .before .fits .b)) (c .before .pre .1 (omega (arith, c .match .keys4)))
 
@@ -47,9 +38,9 @@ pub compute-spec : {M : Type 1} → statement M
 compute-spec =
     tie.close
     (tie.spec
-    sum-requires
-    difference-requires
-    product-requires
+    (λ c κs. search needs)
+    (λ c κs. search needs)
+    (λ c κs. search needs)
     quotient-requires
     remainder-requires
     returns

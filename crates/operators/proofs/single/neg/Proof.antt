@@ -33,41 +33,14 @@ outside c = fits-unless (c .before .before .negated .ok) (number (c .before .bef
 inside : (c : tie.Else2) → ltb (mag (opposite (c .before .before .before .before .before .before))) 2147483648 ≡ true
 inside c = fits-unless (c .before .before .negated .ok) (number (c .before .before)) (c .before .fits2 .ensures) (c .if2 .left)
 
-stopped-requires : tie.Need-stopped-requires
-stopped-requires c κs = search needs
-
 returns : tie.Need-returns
 returns c n = rw (c .stopped .ensures) (refused λ tables values r. neg-is _ n _ ∙ needs-less 1 _ _ (omega (arith, c .before .if1 .taken)))
-
-peek-requires : tie.Need-peek-requires
-peek-requires c κs = search needs
-
-negated-requires : tie.Need-negated-requires
-negated-requires c κs = search needs
-
-fits-requires : tie.Need-fits-requires
-fits-requires c κs = search needs
-
-stopped-requires-2 : tie.Need-stopped-requires-2
-stopped-requires-2 c κs = search needs
-
-same-length : tie.Need-same-length
-same-length c = search needs
 
 returns-2 : tie.Need-returns-2
 returns-2 c n = rw (c .stopped2 .ensures) (refused λ tables values r. neg-out _ n _ (c .before .before .before .before .before .before .if1 .left) (outside (c .before)))
 
 cast-poke : tie.Need-cast-poke
 cast-poke c = narrows (c .before .before .before .negated .ok) (number (c .before .before .before)) (inside (c .before))
-
-poke-requires : tie.Need-poke-requires
-poke-requires c κs = search needs
-
-done-requires : tie.Need-done-requires
-done-requires c κs = search needs
-
-same-length-2 : tie.Need-same-length-2
-same-length-2 c = search needs
 
 returns-3 : tie.Need-returns-3
 returns-3 c n =
@@ -78,16 +51,16 @@ pub neg-spec : {M : Type 1} → statement M
 neg-spec =
     tie.close
     (tie.spec
-    stopped-requires
+    (λ c κs. search needs)
     returns
-    peek-requires
-    negated-requires
-    fits-requires
-    stopped-requires-2
-    same-length
+    (λ c κs. search needs)
+    (λ c κs. search needs)
+    (λ c κs. search needs)
+    (λ c κs. search needs)
+    (λ c. search needs)
     returns-2
     cast-poke
-    poke-requires
-    done-requires
-    same-length-2
+    (λ c κs. search needs)
+    (λ c κs. search needs)
+    (λ c. search needs)
     returns-3)

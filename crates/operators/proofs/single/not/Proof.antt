@@ -10,29 +10,8 @@ use Rattle.cells.proofs.Tried.{carried-out, refused}
 use Rattle.operators.proofs.single.not.Statement.{statement}
 use Rattle.operators.proofs.single.not.Tie as tie
 
-stopped-requires : tie.Need-stopped-requires
-stopped-requires c κs = search needs
-
 returns : tie.Need-returns
 returns c n = rw (c .stopped .ensures) (refused λ tables values r. not-is _ n _ ∙ needs-less 1 _ _ (omega (arith, c .before .if1 .taken)))
-
-peek-requires : tie.Need-peek-requires
-peek-requires c κs = search needs
-
-is-zero-requires : tie.Need-is-zero-requires
-is-zero-requires c κs = search needs
-
-truth-requires : tie.Need-truth-requires
-truth-requires c κs = search needs
-
-poke-requires : tie.Need-poke-requires
-poke-requires c κs = search needs
-
-done-requires : tie.Need-done-requires
-done-requires c κs = search needs
-
-same-length : tie.Need-same-length
-same-length c = search needs
 
 returns-2 : tie.Need-returns-2
 returns-2 c n =
@@ -43,12 +22,12 @@ pub not-spec : {M : Type 1} → statement M
 not-spec =
     tie.close
     (tie.spec
-    stopped-requires
+    (λ c κs. search needs)
     returns
-    peek-requires
-    is-zero-requires
-    truth-requires
-    poke-requires
-    done-requires
-    same-length
+    (λ c κs. search needs)
+    (λ c κs. search needs)
+    (λ c κs. search needs)
+    (λ c κs. search needs)
+    (λ c κs. search needs)
+    (λ c. search needs)
     returns-2)

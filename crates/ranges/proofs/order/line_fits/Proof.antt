@@ -25,12 +25,6 @@ line-start-requires c κs = c .before .pre .0
 loop-holds : tie.Need-loop-holds Inv-loop μ-loop
 loop-holds c = rw (c .line-start .ensures) (refl, seen-none _)
 
-mul-t : tie.Need-mul-t Inv-loop μ-loop
-mul-t c = search needs
-
-shared-slice-read-t : tie.Need-shared-slice-read-t Inv-loop μ-loop
-shared-slice-read-t c = search needs
-
 returns : tie.Need-returns Inv-loop μ-loop
 unfolding tablesOf
 returns c = rw (c .before .before .before .loop .inv .0, below-not _ _ _ (c .before .before .loop-test .taken) (c .if1 .taken))
@@ -44,12 +38,6 @@ returns-2 c = sym (not-once _ _ _ (c .before .if1 .left) (seen-twice _ _ _ _ (c 
 
 array-write-seen : tie.Need-array-write-seen Inv-loop μ-loop
 array-write-seen c = omega (arith, c .before .if1 .left, c .before .before .before .before .before .before .before .pre .0)
-
-add-i : tie.Need-add-i Inv-loop μ-loop
-add-i c = search needs
-
-loop-less : tie.Need-loop-less Inv-loop μ-loop
-loop-less c = search needs
 
 loop-again : tie.Need-loop-again Inv-loop μ-loop
 loop-again c = (
@@ -72,13 +60,13 @@ line-fits-spec =
     μ-loop
     line-start-requires
     loop-holds
-    mul-t
-    shared-slice-read-t
+    (λ c. search needs)
+    (λ c. search needs)
     returns
     array-read-if2
     returns-2
     array-write-seen
-    add-i
-    loop-less
+    (λ c. search needs)
+    (λ c. search needs)
     loop-again
     returns-3)

@@ -4,15 +4,6 @@ use borrow.Author.Needs.{needs}
 use Rattle.ranges.proofs.registers.counts_fit.Statement.{statement}
 use Rattle.ranges.proofs.registers.counts_fit.Tie as tie
 
-in-range-requires : tie.Need-in-range-requires
-in-range-requires c κs = search needs
-
-mul-if2 : tie.Need-mul-if2
-mul-if2 c = search needs
-
-mul-if3 : tie.Need-mul-if3
-mul-if3 c = search needs
-
 returns : tie.Need-returns
 returns c = rw (← (c .before .before .before .before .before .before .in-range .ensures), c .before .before .before .before .before .if1 .taken, le-leb _ _ (c .before .before .before .if2 .taken), le-leb _ _ (c .before .if3 .taken))
 
@@ -27,4 +18,12 @@ returns-4 c = rw (← (c .before .in-range .ensures), c .if1 .left)
 
 pub counts-fit-spec : {M : Type 1} → statement M
 counts-fit-spec =
-    tie.close (tie.spec in-range-requires mul-if2 mul-if3 returns returns-2 returns-3 returns-4)
+    tie.close
+    (tie.spec
+    (λ c κs. search needs)
+    (λ c. search needs)
+    (λ c. search needs)
+    returns
+    returns-2
+    returns-3
+    returns-4)

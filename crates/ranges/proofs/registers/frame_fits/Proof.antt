@@ -4,9 +4,6 @@ use borrow.Author.Needs.{needs}
 use Rattle.ranges.proofs.registers.frame_fits.Statement.{statement}
 use Rattle.ranges.proofs.registers.frame_fits.Tie as tie
 
-in-range-requires : tie.Need-in-range-requires
-in-range-requires c κs = search needs
-
 returns : tie.Need-returns
 returns c = rw (le-leb _ _ (c .before .before .if1 .taken), le-leb _ _ (c .before .if2 .taken)) (c .in-range .ensures)
 
@@ -17,4 +14,8 @@ returns-3 : tie.Need-returns-3
 returns-3 c = rw (lt-leb _ _ (c .if1 .left))
 
 pub frame-fits-spec : {M : Type 1} → statement M
-frame-fits-spec = tie.close (tie.spec in-range-requires returns returns-2 returns-3)
+frame-fits-spec = tie.close (tie.spec
+    (λ c κs. search needs)
+    returns
+    returns-2
+    returns-3)

@@ -4,18 +4,6 @@ use borrow.Author.Needs.{needs}
 use Rattle.ranges.proofs.registers.registers_fit.Statement.{statement}
 use Rattle.ranges.proofs.registers.registers_fit.Tie as tie
 
-counts-fit-requires : tie.Need-counts-fit-requires
-counts-fit-requires c κs = search needs
-
-frame-fits-requires : tie.Need-frame-fits-requires
-frame-fits-requires c κs = search needs
-
-mul-in-range : tie.Need-mul-in-range
-mul-in-range c = search needs
-
-in-range-requires : tie.Need-in-range-requires
-in-range-requires c κs = search needs
-
 returns : tie.Need-returns
 returns c =
     rw (← (c .before .before .before .before .before .before .before .counts-fit .ensures), c .before .before .before .before .before .before .if1 .taken, ← (c .before .before .before .before .before .frame-fits .ensures), c .before .before .before .before .if2 .taken, ← (c .before .before .before .in-range .ensures), c .before .before .if3 .taken, lt-ltb _ _ (c .if4 .taken))
@@ -37,10 +25,10 @@ pub registers-fit-spec : {M : Type 1} → statement M
 registers-fit-spec =
     tie.close
     (tie.spec
-    counts-fit-requires
-    frame-fits-requires
-    mul-in-range
-    in-range-requires
+    (λ c κs. search needs)
+    (λ c κs. search needs)
+    (λ c. search needs)
+    (λ c κs. search needs)
     returns
     returns-2
     returns-3

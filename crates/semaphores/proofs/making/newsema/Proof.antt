@@ -30,35 +30,8 @@ opened c = sym (rw (toZ-ofZ (sfits-of {w = w32} {z = c .before .peek .result} (c
 room : (c : tie.After-enum-told3) → c .before .before .before .before .before .before .args .r .semaphores < c .before .before .before .before .before .before .args .size
 room c = has-room (getD (now (c .before .before .before .before .before .before .args .store)) (stackAt (c .before .before .before .before .before .before .args .size) (c .before .before .before .before .before .before .args .r .thread) (c .before .before .before .before .before .before .args .r .cells - 1)) (pos 0)) 2147483648 (c .before .before .before .before .before .before .args .r .semaphores) (c .before .before .before .before .before .before .args .size) _ (opened (c .before .before) ∙ c .enum-told3 .given .1)
 
-stop-requires : tie.Need-stop-requires
-stop-requires c κs = search needs
-
 returns : tie.Need-returns
 returns c n tables = rw (c .stop .ensures) (faults _ n _ _ 21 (newsema-is _ n _ ∙ needs-less 1 _ _ (omega arith)))
-
-peek-requires : tie.Need-peek-requires
-peek-requires c κs = search needs
-
-opening-for-requires : tie.Need-opening-for-requires
-opening-for-requires c κs = search needs
-
-enum-told : tie.Need-enum-told
-enum-told c = search needs
-
-stop-requires-2 : tie.Need-stop-requires-2
-stop-requires-2 c κs = search needs
-
-enum-told-2 : tie.Need-enum-told-2
-enum-told-2 c = search needs
-
-poke-requires : tie.Need-poke-requires
-poke-requires c κs = search needs
-
-advance-requires : tie.Need-advance-requires
-advance-requires c κs = search needs
-
-enum-told-3 : tie.Need-enum-told-3
-enum-told-3 c = search needs
 
 set-count-requires : tie.Need-set-count-requires
 set-count-requires c κs = (c .before .before .before .before .before .before .before .pre .0 .small, (c .before .before .before .before .before .before .before .pre .1, room (c .before)))
@@ -66,35 +39,14 @@ set-count-requires c κs = (c .before .before .before .before .before .before .b
 cast-poke : tie.Need-cast-poke
 cast-poke c = omega (arith, room (c .before .before .before .before), c .before .before .before .before .before .before .before .before .before .before .pre .0 .small)
 
-poke-requires-2 : tie.Need-poke-requires-2
-poke-requires-2 c κs = search needs
-
-advance-requires-2 : tie.Need-advance-requires-2
-advance-requires-2 c κs = search needs
-
 add-with-semaphores : tie.Need-add-with-semaphores
 add-with-semaphores c = omega (arith, room (c .before .before .before .before .before .before .before), c .before .before .before .before .before .before .before .before .before .before .before .before .before .pre .0 .small)
-
-with-semaphores-requires : tie.Need-with-semaphores-requires
-with-semaphores-requires c κs = search needs
-
-same-length : tie.Need-same-length
-same-length c = search needs
 
 returns-2 : tie.Need-returns-2
 returns-2 c n tables = rw (c .stop2 .ensures) (faults _ n _ _ 30 (newsema-opens _ n _ _ (omega arith) (small (c .before .before .before)) (opened (c .before .before .before) ∙ c .before .enum-told .given .1)))
 
-same-length-2 : tie.Need-same-length-2
-same-length-2 c = search needs
-
 returns-3 : tie.Need-returns-3
 returns-3 c n tables = rw (c .advance .ensures, c .before .before .poke .ensures) (carries _ n _ _ _ (newsema-opens _ n _ _ (omega arith) (small (c .before .before .before .before .before .before)) (opened (c .before .before .before .before .before .before) ∙ c .before .before .before .before .enum-told2 .given .1)))
-
-same-length-3 : tie.Need-same-length-3
-same-length-3 c = search needs
-
-same-length-4 : tie.Need-same-length-4
-same-length-4 c = search needs
 
 returns-4 : tie.Need-returns-4
 returns-4 c n tables =
@@ -105,26 +57,26 @@ pub newsema-spec : {M : Type 1} → statement M
 newsema-spec =
     tie.close
     (tie.spec
-    stop-requires
+    (λ c κs. search needs)
     returns
-    peek-requires
-    opening-for-requires
-    enum-told
-    stop-requires-2
-    enum-told-2
-    poke-requires
-    advance-requires
-    enum-told-3
+    (λ c κs. search needs)
+    (λ c κs. search needs)
+    (λ c. search needs)
+    (λ c κs. search needs)
+    (λ c. search needs)
+    (λ c κs. search needs)
+    (λ c κs. search needs)
+    (λ c. search needs)
     set-count-requires
     cast-poke
-    poke-requires-2
-    advance-requires-2
+    (λ c κs. search needs)
+    (λ c κs. search needs)
     add-with-semaphores
-    with-semaphores-requires
-    same-length
+    (λ c κs. search needs)
+    (λ c. search needs)
     returns-2
-    same-length-2
+    (λ c. search needs)
     returns-3
-    same-length-3
-    same-length-4
+    (λ c. search needs)
+    (λ c. search needs)
     returns-4)

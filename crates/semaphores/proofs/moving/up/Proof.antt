@@ -10,29 +10,11 @@ use Rattle.passing.proofs.Laws.{lands}
 use Rattle.semaphores.proofs.moving.up.Statement.{statement}
 use Rattle.semaphores.proofs.moving.up.Tie as tie
 
-a-semaphore-requires : tie.Need-a-semaphore-requires
-a-semaphore-requires c κs = search needs
-
-enum-known-number : tie.Need-enum-known-number
-enum-known-number c = search needs
-
-stop-requires : tie.Need-stop-requires
-stop-requires c κs = search needs
-
-enum-known-k : tie.Need-enum-known-k
-enum-known-k c = search needs
-
 raise-requires : tie.Need-raise-requires
 raise-requires c κs = let there = passed _ _ _ _ _ _ _ (c .before .before .before .before .before .a-semaphore .ensures ∙ ap semaphoreNamed (c .before .before .before .k .given .1)) in (c .before .before .before .before .before .before .before .pre .1 .0, (c .before .before .before .before .before .before .before .pre .1 .1 .0, (omega (arith, there .below, c .before .before .before .before .before .before .before .pre .1 .1 .1 .semaphores), (c .before .before .before .before .before .before .before .pre .0 .pc, there .enough))))
 
 returns : tie.Need-returns
 returns c n = rw (c .stop .ensures) (faults _ n _ _ _ (up-is _ n _ ∙ stops _ _ _ _ _ _ _ _ (c .before .before .before .before .a-semaphore .ensures ∙ ap semaphoreNamed (c .before .before .number .given .1))))
-
-same-length : tie.Need-same-length
-same-length c = search needs
-
-same-length-2 : tie.Need-same-length-2
-same-length-2 c = search needs
 
 returns-2 : tie.Need-returns-2
 returns-2 c n = c .before .before .before .raise .ensures n (now (c .before .before .before .before .before .before .before .before .before .before .before .args .store)) ∙ lands _ n _ _ _ (up-is _ n _ ∙ goes-on _ _ _ _ _ _ _ _ (c .before .before .before .before .before .before .before .before .before .a-semaphore .ensures ∙ ap semaphoreNamed (c .before .before .before .before .before .before .before .k .given .1)))
@@ -41,12 +23,12 @@ pub up-spec : {M : Type 1} → statement M
 up-spec =
     tie.close
     (tie.spec
-    a-semaphore-requires
-    enum-known-number
-    stop-requires
-    enum-known-k
+    (λ c κs. search needs)
+    (λ c. search needs)
+    (λ c κs. search needs)
+    (λ c. search needs)
     raise-requires
     returns
-    same-length
-    same-length-2
+    (λ c. search needs)
+    (λ c. search needs)
     returns-2)

@@ -40,20 +40,8 @@ module _ (size n : ℕ) (s : State) where
       rw (ne-eqb k 0 (λ z. omega arith), le-leb (s .regs .free + k) (shared size) h)
   made (negsuc k) e h = absurd (not-below (negsuc k) 1 e)
 
-stop-requires : tie.Need-stop-requires
-stop-requires c κs = search needs
-
 returns : tie.Need-returns
 returns c n tables values = rw (c .stop .ensures) (faults _ n _ _ 21 (new-is _ n _ ∙ needs-less 1 _ _ (omega arith)))
-
-peek-requires : tie.Need-peek-requires
-peek-requires c κs = search needs
-
-stop-requires-2 : tie.Need-stop-requires-2
-stop-requires-2 c κs = search needs
-
-same-length : tie.Need-same-length
-same-length c = search needs
 
 returns-2 : tie.Need-returns-2
 returns-2 c n tables values =
@@ -66,37 +54,10 @@ cast-end c = rw (read-back (c .before .peek .ok) refl) (not-below (c .before .pe
 add-end : tie.Need-add-end
 add-end c = rw (read-back (c .before .peek .ok) refl) (omega (arith, natAbs-le (c .before .peek .result) (c .before .peek .ok), c .before .before .before .before .pre .free, c .before .before .before .before .pre .small))
 
-mul-if3 : tie.Need-mul-if3
-mul-if3 c = search needs
-
-poke-requires : tie.Need-poke-requires
-poke-requires c κs = search needs
-
-advance-requires : tie.Need-advance-requires
-advance-requires c κs = search needs
-
-same-length-2 : tie.Need-same-length-2
-same-length-2 c = search needs
-
 returns-3 : tie.Need-returns-3
 returns-3 c n tables values =
     rw (c .advance .ensures, c .before .before .poke .ensures)
     (carries _ n _ _ _ (new-is _ n _ ∙ needs-met 1 _ _ (omega arith) ∙ left _ n _ _ (rw (read-back (c .before .before .before .before .before .before .peek .ok) (c .before .before .before .before .before .before .peek .ensures)) at (c .before .before .before .before .before .if2 .left)) (rw (read-back (c .before .before .before .before .before .before .peek .ok) (c .before .before .before .before .before .before .peek .ensures)) at (c .before .before .before .before .if3 .taken))))
-
-cast-poke : tie.Need-cast-poke
-cast-poke c = search needs
-
-poke-requires-2 : tie.Need-poke-requires-2
-poke-requires-2 c κs = search needs
-
-advance-requires-2 : tie.Need-advance-requires-2
-advance-requires-2 c κs = search needs
-
-with-free-requires : tie.Need-with-free-requires
-with-free-requires c κs = search needs
-
-same-length-3 : tie.Need-same-length-3
-same-length-3 c = search needs
 
 returns-4 : tie.Need-returns-4
 returns-4 c n tables values =
@@ -107,22 +68,22 @@ pub fresh-spec : {M : Type 1} → statement M
 fresh-spec =
     tie.close
     (tie.spec
-    stop-requires
+    (λ c κs. search needs)
     returns
-    peek-requires
-    stop-requires-2
-    same-length
+    (λ c κs. search needs)
+    (λ c κs. search needs)
+    (λ c. search needs)
     returns-2
     cast-end
     add-end
-    mul-if3
-    poke-requires
-    advance-requires
-    same-length-2
+    (λ c. search needs)
+    (λ c κs. search needs)
+    (λ c κs. search needs)
+    (λ c. search needs)
     returns-3
-    cast-poke
-    poke-requires-2
-    advance-requires-2
-    with-free-requires
-    same-length-3
+    (λ c. search needs)
+    (λ c κs. search needs)
+    (λ c κs. search needs)
+    (λ c κs. search needs)
+    (λ c. search needs)
     returns-4)

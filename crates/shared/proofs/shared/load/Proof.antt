@@ -8,32 +8,8 @@ use borrow.Author.Needs.{needs}
 use Rattle.shared.proofs.shared.load.Statement.{statement}
 use Rattle.shared.proofs.shared.load.Tie as tie
 
-stopped-requires : tie.Need-stopped-requires
-stopped-requires c κs = search needs
-
 returns : tie.Need-returns
 returns c n = rw (c .stopped .ensures) (refused λ tables values r. load-is _ n _ ∙ needs-less 1 _ _ (omega arith))
-
-peek-requires : tie.Need-peek-requires
-peek-requires c κs = search needs
-
-mul-checked : tie.Need-mul-checked
-mul-checked c = search needs
-
-checked-requires : tie.Need-checked-requires
-checked-requires c κs = search needs
-
-enum-known-a : tie.Need-enum-known-a
-enum-known-a c = search needs
-
-enum-told : tie.Need-enum-told
-enum-told c = search needs
-
-stopped-requires-2 : tie.Need-stopped-requires-2
-stopped-requires-2 c κs = search needs
-
-same-length : tie.Need-same-length
-same-length c = search needs
 
 returns-2 : tie.Need-returns-2
 returns-2 c n =
@@ -42,15 +18,6 @@ returns-2 c n =
 
 read-requires : tie.Need-read-requires
 read-requires c κs = omega (arith, below-limit (c .before .before .before .before .before .peek .result) _ (c .before .before .before .before .before .peek .ok) (c .before .before .before .before .checked .ensures) (c .before .before .a .given .1), c .before .before .before .before .before .before .before .before .pre .fits)
-
-poke-requires : tie.Need-poke-requires
-poke-requires c κs = search needs
-
-done-requires : tie.Need-done-requires
-done-requires c κs = search needs
-
-same-length-2 : tie.Need-same-length-2
-same-length-2 c = search needs
 
 returns-3 : tie.Need-returns-3
 returns-3 c n =
@@ -61,18 +28,18 @@ pub load-spec : {M : Type 1} → statement M
 load-spec =
     tie.close
     (tie.spec
-    stopped-requires
+    (λ c κs. search needs)
     returns
-    peek-requires
-    mul-checked
-    checked-requires
-    enum-known-a
-    enum-told
-    stopped-requires-2
-    same-length
+    (λ c κs. search needs)
+    (λ c. search needs)
+    (λ c κs. search needs)
+    (λ c. search needs)
+    (λ c. search needs)
+    (λ c κs. search needs)
+    (λ c. search needs)
     returns-2
     read-requires
-    poke-requires
-    done-requires
-    same-length-2
+    (λ c κs. search needs)
+    (λ c κs. search needs)
+    (λ c. search needs)
     returns-3)

@@ -8,55 +8,16 @@ use borrow.Author.Needs.{needs}
 use Rattle.shared.proofs.shared.store_cell.Statement.{statement}
 use Rattle.shared.proofs.shared.store_cell.Tie as tie
 
-stopped-requires : tie.Need-stopped-requires
-stopped-requires c κs = search needs
-
 returns : tie.Need-returns
 returns c n = rw (c .stopped .ensures) (refused λ tables values r. store-is _ n _ ∙ needs-less 2 _ _ (omega arith))
-
-sub-peek : tie.Need-sub-peek
-sub-peek c = search needs
-
-peek-requires : tie.Need-peek-requires
-peek-requires c κs = search needs
-
-mul-checked : tie.Need-mul-checked
-mul-checked c = search needs
-
-checked-requires : tie.Need-checked-requires
-checked-requires c κs = search needs
-
-enum-known-a : tie.Need-enum-known-a
-enum-known-a c = search needs
-
-enum-told : tie.Need-enum-told
-enum-told c = search needs
-
-stopped-requires-2 : tie.Need-stopped-requires-2
-stopped-requires-2 c κs = search needs
-
-same-length : tie.Need-same-length
-same-length c = search needs
 
 returns-2 : tie.Need-returns-2
 returns-2 c n =
     rw (c .stopped2 .ensures)
     (refused λ tables values r. store-is _ n _ ∙ needs-met 2 _ _ (omega arith) ∙ within-out _ _ _ _ (of-cell _ (c .before .before .before .before .peek .ok) (c .before .before .before .before .peek .ensures) (c .before .before .before .checked .ensures) ∙ c .before .enum-told .given .1))
 
-peek-requires-2 : tie.Need-peek-requires-2
-peek-requires-2 c κs = search needs
-
 write-requires : tie.Need-write-requires
 write-requires c κs = omega (arith, below-limit (c .before .before .before .before .before .before .before .peek .result) _ (c .before .before .before .before .before .before .before .peek .ok) (c .before .before .before .before .before .before .checked .ensures) (c .before .before .before .before .a .given .1), c .before .before .before .before .before .before .before .before .before .before .pre .fits)
-
-sub-t12 : tie.Need-sub-t12
-sub-t12 c = search needs
-
-done-requires : tie.Need-done-requires
-done-requires c κs = search needs
-
-same-length-2 : tie.Need-same-length-2
-same-length-2 c = search needs
 
 returns-3 : tie.Need-returns-3
 returns-3 c n =
@@ -67,20 +28,20 @@ pub store-cell-spec : {M : Type 1} → statement M
 store-cell-spec =
     tie.close
     (tie.spec
-    stopped-requires
+    (λ c κs. search needs)
     returns
-    sub-peek
-    peek-requires
-    mul-checked
-    checked-requires
-    enum-known-a
-    enum-told
-    stopped-requires-2
-    same-length
+    (λ c. search needs)
+    (λ c κs. search needs)
+    (λ c. search needs)
+    (λ c κs. search needs)
+    (λ c. search needs)
+    (λ c. search needs)
+    (λ c κs. search needs)
+    (λ c. search needs)
     returns-2
-    peek-requires-2
+    (λ c κs. search needs)
     write-requires
-    sub-t12
-    done-requires
-    same-length-2
+    (λ c. search needs)
+    (λ c κs. search needs)
+    (λ c. search needs)
     returns-3)

@@ -9,23 +9,8 @@ use borrow.Author.Needs.{needs}
 use Rattle.stack.proofs.constants.loadc.Statement.{statement}
 use Rattle.stack.proofs.constants.loadc.Tie as tie
 
-stopped-requires : tie.Need-stopped-requires
-stopped-requires c κs = search needs
-
 returns : tie.Need-returns
 returns c n = rw (c .stopped .ensures) (refused λ tables values r. loadc-is _ n _ _ ∙ rooms-full 1 _ _ (omega arith))
-
-poke-requires : tie.Need-poke-requires
-poke-requires c κs = search needs
-
-add-t11 : tie.Need-add-t11
-add-t11 c = search needs
-
-done-requires : tie.Need-done-requires
-done-requires c κs = search needs
-
-same-length : tie.Need-same-length
-same-length c = search needs
 
 returns-2 : tie.Need-returns-2
 returns-2 c n =
@@ -35,4 +20,11 @@ returns-2 c n =
 pub loadc-spec : {M : Type 1} → statement M
 loadc-spec =
     tie.close
-    (tie.spec stopped-requires returns poke-requires add-t11 done-requires same-length returns-2)
+    (tie.spec
+    (λ c κs. search needs)
+    returns
+    (λ c κs. search needs)
+    (λ c. search needs)
+    (λ c κs. search needs)
+    (λ c. search needs)
+    returns-2)

@@ -32,12 +32,6 @@ Inv-loop store₀ size r k cells end i₀ store i =
 abbrev μ-loop : tie.MeasureT-loop
 μ-loop store₀ size r k cells end i₀ store i = end - i
 
-add-end : tie.Need-add-end Inv-loop μ-loop
-add-end c = search needs
-
-stop-requires : tie.Need-stop-requires Inv-loop μ-loop
-stop-requires c κs = search needs
-
 returns : tie.Need-returns Inv-loop μ-loop
 returns c n tables values = rw (c .stop .ensures) (faults _ n _ _ 22 (alloc-is _ n _ _ ∙ rooms-full _ _ _ (omega arith)))
 
@@ -46,15 +40,6 @@ loop-holds c =
     let whole : c .before .args .r .cells + c .before .args .k - c .before .args .r .cells ≡ c .before .args .k = omega arith in
     (omega arith, omega arith, refl, rw whole)
 
-poke-requires : tie.Need-poke-requires Inv-loop μ-loop
-poke-requires c κs = search needs
-
-add-i : tie.Need-add-i Inv-loop μ-loop
-add-i c = search needs
-
-loop-less : tie.Need-loop-less Inv-loop μ-loop
-loop-less c = search needs
-
 loop-again : tie.Need-loop-again Inv-loop μ-loop
 loop-again c = (
   omega arith,
@@ -62,15 +47,6 @@ loop-again c = (
   rw (c .before .poke .ensures, length-set) (c .before .before .before .before .loop .inv .2),
   rw (c .before .poke .ensures) (one-less (c .before .before .before .before .loop .store) (c .before .before .before .before .before .before .args .size) (c .before .before .before .before .before .before .args .r .thread) (c .before .before .before .before .loop .i) (c .before .before .before .before .before .before .args .r .cells + c .before .before .before .before .before .before .args .k) (c .before .before .before .loop-test .taken) ∙ c .before .before .before .before .loop .inv .3),
 )
-
-advance-requires : tie.Need-advance-requires Inv-loop μ-loop
-advance-requires c κs = search needs
-
-with-cells-requires : tie.Need-with-cells-requires Inv-loop μ-loop
-with-cells-requires c κs = search needs
-
-same-length : tie.Need-same-length Inv-loop μ-loop
-same-length c = search needs
 
 returns-2 : tie.Need-returns-2 Inv-loop μ-loop
 returns-2 c n tables values =
@@ -84,15 +60,15 @@ alloc-spec =
     (tie.spec
     Inv-loop
     μ-loop
-    add-end
-    stop-requires
+    (λ c. search needs)
+    (λ c κs. search needs)
     returns
     loop-holds
-    poke-requires
-    add-i
-    loop-less
+    (λ c κs. search needs)
+    (λ c. search needs)
+    (λ c. search needs)
     loop-again
-    advance-requires
-    with-cells-requires
-    same-length
+    (λ c κs. search needs)
+    (λ c κs. search needs)
+    (λ c. search needs)
     returns-2)

@@ -8,20 +8,8 @@ use borrow.Author.Needs.{needs}
 use Rattle.stack.proofs.stack_ops.dup.Statement.{statement}
 use Rattle.stack.proofs.stack_ops.dup.Tie as tie
 
-stopped-requires : tie.Need-stopped-requires
-stopped-requires c κs = search needs
-
 returns : tie.Need-returns
 returns c n = rw (c .stopped .ensures) (refused λ tables values r. dup-is _ n _ ∙ needs-less 1 _ _ (omega arith))
-
-peek-requires : tie.Need-peek-requires
-peek-requires c κs = search needs
-
-loadc-requires : tie.Need-loadc-requires
-loadc-requires c κs = search needs
-
-same-length : tie.Need-same-length
-same-length c = search needs
 
 returns-2 : tie.Need-returns-2
 returns-2 c n = pushes (c .before .before .before .peek .ok) (c .before .before .before .peek .ensures) (c .before .loadc .ensures n) (λ tables values r. dup-is _ n _ ∙ needs-met 1 _ _ (omega arith))
@@ -29,4 +17,10 @@ returns-2 c n = pushes (c .before .before .before .peek .ok) (c .before .before 
 pub dup-spec : {M : Type 1} → statement M
 dup-spec =
     tie.close
-    (tie.spec stopped-requires returns peek-requires loadc-requires same-length returns-2)
+    (tie.spec
+    (λ c κs. search needs)
+    returns
+    (λ c κs. search needs)
+    (λ c κs. search needs)
+    (λ c. search needs)
+    returns-2)

@@ -8,17 +8,12 @@ use borrow.Author.Needs.{needs}
 use Rattle.stack.proofs.stack_ops.mark.Statement.{statement}
 use Rattle.stack.proofs.stack_ops.mark.Tie as tie
 
-cast-loadc : tie.Need-cast-loadc
-cast-loadc c = search needs
-
-loadc-requires : tie.Need-loadc-requires
-loadc-requires c κs = search needs
-
-same-length : tie.Need-same-length
-same-length c = search needs
-
 returns : tie.Need-returns
 returns c n = pushes {x = pos (c .before .before .before .before .args .c .fp)} (omega arith) refl (c .before .loadc .ensures n) (λ tables values r. mark-is _ n _)
 
 pub mark-spec : {M : Type 1} → statement M
-mark-spec = tie.close (tie.spec cast-loadc loadc-requires same-length returns)
+mark-spec = tie.close (tie.spec
+    (λ c. search needs)
+    (λ c κs. search needs)
+    (λ c. search needs)
+    returns)

@@ -7,15 +7,6 @@ use Rattle.tables.proofs.Line.{once-in-line, sent-left}
 use Rattle.tables.proofs.order.send.Statement.{statement}
 use Rattle.tables.proofs.order.send.Tie as tie
 
-mul-tables : tie.Need-mul-tables
-mul-tables c = search needs
-
-slice-write-tables : tie.Need-slice-write-tables
-slice-write-tables c = search needs
-
-mul-to-end : tie.Need-mul-to-end
-mul-to-end c = search needs
-
 to-end-requires : tie.Need-to-end-requires
 to-end-requires c κs = (simp length-set (omega (arith, c .before .before .pre .0 .long)), once-in-line _ _ _ _ (c .before .before .pre .0) (c .before .before .pre .1))
 
@@ -28,4 +19,10 @@ returns c = sent-left _ _ _ _ _ (c .before .before .before .before .before .pre 
 pub send-spec : {M : Type 1} → statement M
 send-spec =
     tie.close
-    (tie.spec mul-tables slice-write-tables mul-to-end to-end-requires same-length returns)
+    (tie.spec
+    (λ c. search needs)
+    (λ c. search needs)
+    (λ c. search needs)
+    to-end-requires
+    same-length
+    returns)

@@ -33,14 +33,8 @@ abbrev μ-loop : tie.MeasureT-loop
 sub-i : tie.Need-sub-i Inv-loop μ-loop
 sub-i c = omega (arith, some _ _ _ (c .pre .0) (c .pre .1))
 
-mul-carried : tie.Need-mul-carried Inv-loop μ-loop
-mul-carried c = search needs
-
 slice-read-carried : tie.Need-slice-read-carried Inv-loop μ-loop
 slice-read-carried c = omega (arith, some _ _ _ (c .before .pre .0) (c .before .pre .1))
-
-mul-tables : tie.Need-mul-tables Inv-loop μ-loop
-mul-tables c = search needs
 
 slice-write-tables : tie.Need-slice-write-tables Inv-loop μ-loop
 slice-write-tables c = omega (arith, some _ _ _ (c .before .pre .0) (c .before .pre .1))
@@ -94,9 +88,9 @@ to-end-spec =
     Inv-loop
     μ-loop
     sub-i
-    mul-carried
+    (λ c. search needs)
     slice-read-carried
-    mul-tables
+    (λ c. search needs)
     slice-write-tables
     loop-holds
     sub-i-2

@@ -9,24 +9,6 @@ use Rattle.tables.proofs.Regions.{still-good, store-owner}
 use Rattle.tables.proofs.owners.own.Statement.{statement}
 use Rattle.tables.proofs.owners.own.Tie as tie
 
-number-of-requires : tie.Need-number-of-requires
-number-of-requires c κs = search needs
-
-mul-tables : tie.Need-mul-tables
-mul-tables c = search needs
-
-add-tables : tie.Need-add-tables
-add-tables c = search needs
-
-mul-tables-2 : tie.Need-mul-tables-2
-mul-tables-2 c = search needs
-
-slice-write-tables : tie.Need-slice-write-tables
-slice-write-tables c = search needs
-
-same-length : tie.Need-same-length
-same-length c = search needs
-
 returns : tie.Need-returns
 returns c =
     let a = c .before .before .args in
@@ -38,10 +20,10 @@ pub own-spec : {M : Type 1} → statement M
 own-spec =
     tie.close
     (tie.spec
-    number-of-requires
-    mul-tables
-    add-tables
-    mul-tables-2
-    slice-write-tables
-    same-length
+    (λ c κs. search needs)
+    (λ c. search needs)
+    (λ c. search needs)
+    (λ c. search needs)
+    (λ c. search needs)
+    (λ c. search needs)
     returns)

@@ -7,15 +7,6 @@ use Rattle.tables.proofs.Owning.{held, no-ones}
 use Rattle.tables.proofs.owners.owns.Statement.{statement}
 use Rattle.tables.proofs.owners.owns.Tie as tie
 
-owner-requires : tie.Need-owner-requires
-owner-requires c κs = search needs
-
-enum-known-by : tie.Need-enum-known-by
-enum-known-by c = search needs
-
-enum-told : tie.Need-enum-told
-enum-told c = search needs
-
 returns : tie.Need-returns
 returns c = sym (no-ones _ _ _ (sym (c .before .before .owner .ensures) ∙ c .enum-told .given .1) (c .before .before .before .before .pre .1 .0))
 
@@ -23,4 +14,9 @@ returns-2 : tie.Need-returns-2
 returns-2 c = ap (λ (k : ℕ). eqb k (c .before .before .before .before .before .before .before .args .t .0)) (sym (held _ _ _ (sym (c .before .before .before .before .before .owner .ensures) ∙ c .before .before .before .by .given .1) .by))
 
 pub owns-spec : {M : Type 1} → statement M
-owns-spec = tie.close (tie.spec owner-requires enum-known-by enum-told returns returns-2)
+owns-spec = tie.close (tie.spec
+    (λ c κs. search needs)
+    (λ c. search needs)
+    (λ c. search needs)
+    returns
+    returns-2)

@@ -20,21 +20,9 @@ abbrev μ-loop : tie.MeasureT-loop
 loop-holds : tie.Need-loop-holds Inv-loop μ-loop
 loop-holds c = below-none _
 
-mul-loop : tie.Need-mul-loop Inv-loop μ-loop
-mul-loop c = search needs
-
-owns-requires : tie.Need-owns-requires Inv-loop μ-loop
-owns-requires c κs = search needs
-
 returns : tie.Need-returns Inv-loop μ-loop
 unfolding ownsAny
 returns c = sym (true-some _ _ _ (c .before .before .loop-test .taken) (sym (c .before .owns .ensures) ∙ c .if1 .taken))
-
-add-m : tie.Need-add-m Inv-loop μ-loop
-add-m c = search needs
-
-loop-less : tie.Need-loop-less Inv-loop μ-loop
-loop-less c = search needs
 
 loop-again : tie.Need-loop-again Inv-loop μ-loop
 loop-again c = below-more _ _ (c .before .before .before .loop .inv) (sym (c .before .owns .ensures) ∙ c .if1 .left)
@@ -50,10 +38,10 @@ owns-any-spec =
     Inv-loop
     μ-loop
     loop-holds
-    mul-loop
-    owns-requires
+    (λ c. search needs)
+    (λ c κs. search needs)
     returns
-    add-m
-    loop-less
+    (λ c. search needs)
+    (λ c. search needs)
     loop-again
     returns-2)

@@ -4,27 +4,6 @@ use borrow.Author.Needs.{needs}
 use Rattle.tables.proofs.places.awaited_at.Statement.{statement}
 use Rattle.tables.proofs.places.awaited_at.Tie as tie
 
-mul-conditions : tie.Need-mul-conditions
-mul-conditions c = search needs
-
-add-conditions : tie.Need-add-conditions
-add-conditions c = search needs
-
-mul-semaphores : tie.Need-mul-semaphores
-mul-semaphores c = search needs
-
-add-semaphores : tie.Need-add-semaphores
-add-semaphores c = search needs
-
-mul-ends : tie.Need-mul-ends
-mul-ends c = search needs
-
-add-ends : tie.Need-add-ends
-add-ends c = search needs
-
-sub-t8 : tie.Need-sub-t8
-sub-t8 c = search needs
-
 returns : tie.Need-returns
 returns c = rw (lt-ltb _ _ (c .if1 .taken))
 
@@ -41,13 +20,13 @@ pub awaited-at-spec : {M : Type 1} → statement M
 awaited-at-spec =
     tie.close
     (tie.spec
-    mul-conditions
-    add-conditions
-    mul-semaphores
-    add-semaphores
-    mul-ends
-    add-ends
-    sub-t8
+    (λ c. search needs)
+    (λ c. search needs)
+    (λ c. search needs)
+    (λ c. search needs)
+    (λ c. search needs)
+    (λ c. search needs)
+    (λ c. search needs)
     returns
     returns-2
     returns-3

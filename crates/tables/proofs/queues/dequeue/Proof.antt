@@ -7,18 +7,6 @@ use Rattle.tables.proofs.Line.{found-real}
 use Rattle.tables.proofs.queues.dequeue.Statement.{statement}
 use Rattle.tables.proofs.queues.dequeue.Tie as tie
 
-find-requires : tie.Need-find-requires
-find-requires c κs = search needs
-
-enum-known-found : tie.Need-enum-known-found
-enum-known-found c = search needs
-
-enum-told : tie.Need-enum-told
-enum-told c = search needs
-
-same-length : tie.Need-same-length
-same-length c = search needs
-
 returns : tie.Need-returns
 returns c =
     let nobody = c .enum-told .given .1 in
@@ -30,9 +18,6 @@ returns c =
 
 send-requires : tie.Need-send-requires
 send-requires c κs = (c .before .before .before .before .before .before .before .pre .0, found-real _ _ (c .before .before .before .before .before .before .before .pre .0) _ _ (sym (c .before .before .before .before .find .ensures) ∙ c .before .before .found .given .1))
-
-same-length-2 : tie.Need-same-length-2
-same-length-2 c = search needs
 
 returns-2 : tie.Need-returns-2
 returns-2 c =
@@ -47,11 +32,11 @@ pub dequeue-spec : {M : Type 1} → statement M
 dequeue-spec =
     tie.close
     (tie.spec
-    find-requires
-    enum-known-found
-    enum-told
-    same-length
+    (λ c κs. search needs)
+    (λ c. search needs)
+    (λ c. search needs)
+    (λ c. search needs)
     returns
     send-requires
-    same-length-2
+    (λ c. search needs)
     returns-2)

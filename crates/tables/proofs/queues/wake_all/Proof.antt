@@ -20,12 +20,6 @@ loop-holds c = (c .before .pre .0, refl, refl)
 dequeue-requires : tie.Need-dequeue-requires Inv-loop μ-loop
 dequeue-requires c κs = (c .before .loop .inv .0, tt)
 
-enum-known-t : tie.Need-enum-known-t Inv-loop μ-loop
-enum-known-t c = search needs
-
-enum-told : tie.Need-enum-told Inv-loop μ-loop
-enum-told c = search needs
-
 same-length : tie.Need-same-length Inv-loop μ-loop
 same-length c = c .before .before .before .before .dequeue .kept .0 ∙ c .before .before .before .before .before .before .loop .inv .1
 
@@ -55,8 +49,8 @@ wake-all-spec =
     μ-loop
     loop-holds
     dequeue-requires
-    enum-known-t
-    enum-told
+    (λ c. search needs)
+    (λ c. search needs)
     same-length
     returns
     make-ready-requires

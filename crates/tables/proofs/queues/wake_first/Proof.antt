@@ -5,26 +5,11 @@ use Rattle.tables.proofs.Waking.{none-woken, woken}
 use Rattle.tables.proofs.queues.wake_first.Statement.{statement}
 use Rattle.tables.proofs.queues.wake_first.Tie as tie
 
-dequeue-requires : tie.Need-dequeue-requires
-dequeue-requires c κs = search needs
-
-enum-known-t : tie.Need-enum-known-t
-enum-known-t c = search needs
-
-enum-told : tie.Need-enum-told
-enum-told c = search needs
-
-same-length : tie.Need-same-length
-same-length c = search needs
-
 returns : tie.Need-returns
 returns c = let d = c .before .before .before .before .dequeue .ensures in record { is = none-woken _ _ _ _ _ (c .before .before .before .before .before .before .before .pre) d (c .enum-told .given .1); good = d .left .good }
 
 make-ready-requires : tie.Need-make-ready-requires
 make-ready-requires c κs = let d = c .before .before .before .before .before .before .dequeue .ensures in (d .left .good, d .real _ (c .before .before .t .given .1))
-
-same-length-2 : tie.Need-same-length-2
-same-length-2 c = search needs
 
 returns-2 : tie.Need-returns-2
 returns-2 c =
@@ -35,11 +20,11 @@ pub wake-first-spec : {M : Type 1} → statement M
 wake-first-spec =
     tie.close
     (tie.spec
-    dequeue-requires
-    enum-known-t
-    enum-told
-    same-length
+    (λ c κs. search needs)
+    (λ c. search needs)
+    (λ c. search needs)
+    (λ c. search needs)
     returns
     make-ready-requires
-    same-length-2
+    (λ c. search needs)
     returns-2)

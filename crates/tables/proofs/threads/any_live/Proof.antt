@@ -19,18 +19,9 @@ abbrev μ-loop : tie.MeasureT-loop
 loop-holds : tie.Need-loop-holds Inv-loop μ-loop
 loop-holds c = below-none _
 
-lives-requires : tie.Need-lives-requires Inv-loop μ-loop
-lives-requires c κs = search needs
-
 returns : tie.Need-returns Inv-loop μ-loop
 unfolding anyLive
 returns c = sym (true-some _ _ _ (c .before .before .loop-test .taken) (sym (c .before .lives .ensures) ∙ c .if1 .taken))
-
-add-t : tie.Need-add-t Inv-loop μ-loop
-add-t c = search needs
-
-loop-less : tie.Need-loop-less Inv-loop μ-loop
-loop-less c = search needs
 
 loop-again : tie.Need-loop-again Inv-loop μ-loop
 loop-again c = below-more _ _ (c .before .before .before .loop .inv) (sym (c .before .lives .ensures) ∙ c .if1 .left)
@@ -46,9 +37,9 @@ any-live-spec =
     Inv-loop
     μ-loop
     loop-holds
-    lives-requires
+    (λ c κs. search needs)
     returns
-    add-t
-    loop-less
+    (λ c. search needs)
+    (λ c. search needs)
     loop-again
     returns-2)

@@ -8,14 +8,11 @@ use Rattle.tables.proofs.Regions.{read-place}
 use Rattle.tables.proofs.threads.has_ended.Statement.{statement}
 use Rattle.tables.proofs.threads.has_ended.Tie as tie
 
-mul-result : tie.Need-mul-result
-mul-result c = search needs
-
-shared-slice-read-result : tie.Need-shared-slice-read-result
-shared-slice-read-result c = search needs
-
 returns : tie.Need-returns
 returns c = ap (λ (place : ℕ). eqb place ended) (sym (read-place _ _ _ (c .before .pre .1)))
 
 pub has-ended-spec : {M : Type 1} → statement M
-has-ended-spec = tie.close (tie.spec mul-result shared-slice-read-result returns)
+has-ended-spec = tie.close (tie.spec
+    (λ c. search needs)
+    (λ c. search needs)
+    returns)

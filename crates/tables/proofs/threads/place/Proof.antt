@@ -5,14 +5,11 @@ use Rattle.tables.proofs.Regions.{read-place}
 use Rattle.tables.proofs.threads.place.Statement.{statement}
 use Rattle.tables.proofs.threads.place.Tie as tie
 
-mul-result : tie.Need-mul-result
-mul-result c = search needs
-
-shared-slice-read-result : tie.Need-shared-slice-read-result
-shared-slice-read-result c = search needs
-
 returns : tie.Need-returns
 returns c = sym (read-place _ _ _ (c .before .pre .1))
 
 pub place-spec : {M : Type 1} → statement M
-place-spec = tie.close (tie.spec mul-result shared-slice-read-result returns)
+place-spec = tie.close (tie.spec
+    (λ c. search needs)
+    (λ c. search needs)
+    returns)

@@ -9,44 +9,11 @@ use Rattle.tables.proofs.Regions.{still-good, store-saved}
 use Rattle.tables.proofs.threads.save.Statement.{statement}
 use Rattle.tables.proofs.threads.save.Tie as tie
 
-mul-tables : tie.Need-mul-tables
-mul-tables c = search needs
-
-add-tables : tie.Need-add-tables
-add-tables c = search needs
-
-mul-tables-2 : tie.Need-mul-tables-2
-mul-tables-2 c = search needs
-
-slice-write-tables : tie.Need-slice-write-tables
-slice-write-tables c = search needs
-
-mul-tables-3 : tie.Need-mul-tables-3
-mul-tables-3 c = search needs
-
-add-tables-2 : tie.Need-add-tables-2
-add-tables-2 c = search needs
-
-mul-tables-4 : tie.Need-mul-tables-4
-mul-tables-4 c = search needs
-
 slice-write-tables-2 : tie.Need-slice-write-tables-2
 slice-write-tables-2 c = simp length-set (omega arith)
 
-mul-tables-5 : tie.Need-mul-tables-5
-mul-tables-5 c = search needs
-
-add-tables-3 : tie.Need-add-tables-3
-add-tables-3 c = search needs
-
-mul-tables-6 : tie.Need-mul-tables-6
-mul-tables-6 c = search needs
-
 slice-write-tables-3 : tie.Need-slice-write-tables-3
 slice-write-tables-3 c = simp length-set (omega arith)
-
-same-length : tie.Need-same-length
-same-length c = search needs
 
 returns : tie.Need-returns
 returns c =
@@ -58,17 +25,17 @@ pub save-spec : {M : Type 1} → statement M
 save-spec =
     tie.close
     (tie.spec
-    mul-tables
-    add-tables
-    mul-tables-2
-    slice-write-tables
-    mul-tables-3
-    add-tables-2
-    mul-tables-4
+    (λ c. search needs)
+    (λ c. search needs)
+    (λ c. search needs)
+    (λ c. search needs)
+    (λ c. search needs)
+    (λ c. search needs)
+    (λ c. search needs)
     slice-write-tables-2
-    mul-tables-5
-    add-tables-3
-    mul-tables-6
+    (λ c. search needs)
+    (λ c. search needs)
+    (λ c. search needs)
     slice-write-tables-3
-    same-length
+    (λ c. search needs)
     returns)

@@ -26,47 +26,8 @@ below c = sym (rw (toZ-ofZ (sfits-of {w = w32} {z = c .before .peek .result} (c 
 room : (c : tie.After-entry) → c .before .before .before .before .before .before .before .args .r .threads < c .before .before .before .before .before .before .before .args .size
 room c = has-room (toZ w32 (ofZ w32 (c .before .before .before .peek .result))) (c .before .before .before .before .before .before .before .args .n) (c .before .before .before .before .before .before .before .args .r .threads) (c .before .before .before .before .before .before .before .args .size) _ (sym (c .before .before .opening-for .ensures) ∙ c .entry .given .1)
 
-stop-requires : tie.Need-stop-requires
-stop-requires c κs = search needs
-
 returns : tie.Need-returns
 returns c values = rw (c .stop .ensures) (faults _ _ _ _ 21 (create-is _ _ _ ∙ needs-less 2 _ _ (omega arith)))
-
-peek-requires : tie.Need-peek-requires
-peek-requires c κs = search needs
-
-opening-for-requires : tie.Need-opening-for-requires
-opening-for-requires c κs = search needs
-
-enum-told : tie.Need-enum-told
-enum-told c = search needs
-
-stop-requires-2 : tie.Need-stop-requires-2
-stop-requires-2 c κs = search needs
-
-enum-told-2 : tie.Need-enum-told-2
-enum-told-2 c = search needs
-
-poke-requires : tie.Need-poke-requires
-poke-requires c κs = search needs
-
-advance-requires : tie.Need-advance-requires
-advance-requires c κs = search needs
-
-sub-with-cells : tie.Need-sub-with-cells
-sub-with-cells c = search needs
-
-with-cells-requires : tie.Need-with-cells-requires
-with-cells-requires c κs = search needs
-
-enum-known-entry : tie.Need-enum-known-entry
-enum-known-entry c = search needs
-
-sub-peek : tie.Need-sub-peek
-sub-peek c = search needs
-
-peek-requires-2 : tie.Need-peek-requires-2
-peek-requires-2 c κs = search needs
 
 make-thread-requires : tie.Need-make-thread-requires
 make-thread-requires c κs = (record { small = c .before .before .before .before .before .before .before .before .before .before .before .before .pre .0 .small; fits = c .before .before .before .before .before .before .before .before .before .before .before .before .pre .0 .fits; thread = room (c .before .before .before .before .before); cell = omega arith }, c .before .before .before .before .before .before .before .before .before .before .before .before .pre .1)
@@ -74,45 +35,21 @@ make-thread-requires c κs = (record { small = c .before .before .before .before
 cast-poke : tie.Need-cast-poke
 cast-poke c = omega (arith, c .before .before .before .before .before .make-thread .ensures .0, room (c .before .before .before .before .before .before .before .before .before .before .before), c .before .before .before .before .before .before .before .before .before .before .before .before .before .before .before .before .before .before .pre .0 .small)
 
-poke-requires-2 : tie.Need-poke-requires-2
-poke-requires-2 c κs = search needs
-
-advance-requires-2 : tie.Need-advance-requires-2
-advance-requires-2 c κs = search needs
-
 sub-with-cells-2 : tie.Need-sub-with-cells-2
 sub-with-cells-2 c = omega (arith, c .before .before .before .before .before .before .before .before .before .before .before .before .before .before .before .before .before .before .before .if1 .left)
 
-with-cells-requires-2 : tie.Need-with-cells-requires-2
-with-cells-requires-2 c κs = search needs
-
 add-with-made : tie.Need-add-with-made
 add-with-made c = omega (arith, room (c .before .before .before .before .before .before .before .before .before .before .before .before .before .before .before), c .before .before .before .before .before .before .before .before .before .before .before .before .before .before .before .before .before .before .before .before .before .before .pre .0 .small)
-
-with-made-requires : tie.Need-with-made-requires
-with-made-requires c κs = search needs
-
-same-length : tie.Need-same-length
-same-length c = search needs
 
 returns-2 : tie.Need-returns-2
 returns-2 c values =
     rw (c .stop2 .ensures)
     (faults _ _ _ _ 25 (creates _ _ _ _ (omega arith) (below (c .before .before .before) ∙ c .before .enum-told .given .1)))
 
-same-length-2 : tie.Need-same-length-2
-same-length-2 c = search needs
-
 returns-3 : tie.Need-returns-3
 returns-3 c values =
     rw (c .with-cells .ensures, c .before .advance .ensures, c .before .before .before .poke .ensures)
     (carries _ _ _ _ _ (creates _ _ _ _ (omega arith) (below (c .before .before .before .before .before .before .before) ∙ c .before .before .before .before .before .enum-told2 .given .1)))
-
-same-length-3 : tie.Need-same-length-3
-same-length-3 c = search needs
-
-same-length-4 : tie.Need-same-length-4
-same-length-4 c = search needs
 
 returns-4 : tie.Need-returns-4
 returns-4 c values =
@@ -134,32 +71,32 @@ pub create-spec : {M : Type 1} → statement M
 create-spec =
     tie.close
     (tie.spec
-    stop-requires
+    (λ c κs. search needs)
     returns
-    peek-requires
-    opening-for-requires
-    enum-told
-    stop-requires-2
-    enum-told-2
-    poke-requires
-    advance-requires
-    sub-with-cells
-    with-cells-requires
-    enum-known-entry
-    sub-peek
-    peek-requires-2
+    (λ c κs. search needs)
+    (λ c κs. search needs)
+    (λ c. search needs)
+    (λ c κs. search needs)
+    (λ c. search needs)
+    (λ c κs. search needs)
+    (λ c κs. search needs)
+    (λ c. search needs)
+    (λ c κs. search needs)
+    (λ c. search needs)
+    (λ c. search needs)
+    (λ c κs. search needs)
     make-thread-requires
     cast-poke
-    poke-requires-2
-    advance-requires-2
+    (λ c κs. search needs)
+    (λ c κs. search needs)
     sub-with-cells-2
-    with-cells-requires-2
+    (λ c κs. search needs)
     add-with-made
-    with-made-requires
-    same-length
+    (λ c κs. search needs)
+    (λ c. search needs)
     returns-2
-    same-length-2
+    (λ c. search needs)
     returns-3
-    same-length-3
-    same-length-4
+    (λ c. search needs)
+    (λ c. search needs)
     returns-4)

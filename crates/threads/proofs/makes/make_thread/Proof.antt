@@ -5,21 +5,6 @@ use mir.Facts.{toZ-ofZ}
 use Rattle.threads.proofs.makes.make_thread.Statement.{statement}
 use Rattle.threads.proofs.makes.make_thread.Tie as tie
 
-new-stack-requires : tie.Need-new-stack-requires
-new-stack-requires c κs = search needs
-
-save-requires : tie.Need-save-requires
-save-requires c κs = search needs
-
-make-ready-requires : tie.Need-make-ready-requires
-make-ready-requires c κs = search needs
-
-same-length : tie.Need-same-length
-same-length c = search needs
-
-same-length-2 : tie.Need-same-length-2
-same-length-2 c = search needs
-
 returns : tie.Need-returns
 returns c = (
   refl,
@@ -35,4 +20,10 @@ returns c = (
 pub make-thread-spec : {M : Type 1} → statement M
 make-thread-spec =
     tie.close
-    (tie.spec new-stack-requires save-requires make-ready-requires same-length same-length-2 returns)
+    (tie.spec
+    (λ c κs. search needs)
+    (λ c κs. search needs)
+    (λ c κs. search needs)
+    (λ c. search needs)
+    (λ c. search needs)
+    returns)

@@ -6,14 +6,8 @@ use Rattle.threads.proofs.Idle.{idle-gone}
 use Rattle.threads.proofs.turns.block.Statement.{statement}
 use Rattle.threads.proofs.turns.block.Tie as tie
 
-leave-requires : tie.Need-leave-requires
-leave-requires c κs = search needs
-
 next-requires : tie.Need-next-requires
 next-requires c κs = (c .before .before .before .leave .ensures .good, idle-gone _ (c .before .before .before .before .before .before .args .skip) _ _ _ _ _ (c .before .before .before .leave .ensures) (c .before .before .before .before .before .before .pre .1 .1))
-
-same-length : tie.Need-same-length
-same-length c = search needs
 
 returns : tie.Need-returns
 returns c =
@@ -23,4 +17,8 @@ returns c =
     }
 
 pub block-spec : {M : Type 1} → statement M
-block-spec = tie.close (tie.spec leave-requires next-requires same-length returns)
+block-spec = tie.close (tie.spec
+    (λ c κs. search needs)
+    next-requires
+    (λ c. search needs)
+    returns)

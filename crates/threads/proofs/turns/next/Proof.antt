@@ -11,18 +11,6 @@ use Rattle.threads.proofs.turns.next.Tie as tie
 dequeue-requires : tie.Need-dequeue-requires
 dequeue-requires c κs = (c .before .before .pre .0, idle-behind _ ready (c .before .before .args .skip) (c .before .before .pre .1) (omega arith))
 
-enum-known-t : tie.Need-enum-known-t
-enum-known-t c = search needs
-
-enum-told : tie.Need-enum-told
-enum-told c = search needs
-
-idle-requires : tie.Need-idle-requires
-idle-requires c κs = search needs
-
-same-length : tie.Need-same-length
-same-length c = search needs
-
 returns : tie.Need-returns
 returns c =
     let d = c .before .before .before .before .before .before .dequeue .ensures in
@@ -41,12 +29,6 @@ saved-cells-requires c κs = (c .before .before .before .before .before .before 
 saved-fp-requires : tie.Need-saved-fp-requires
 saved-fp-requires c κs = (c .before .before .before .before .before .before .before .before .before .before .dequeue .ensures .left .good, c .before .before .before .before .before .before .before .before .before .before .dequeue .ensures .real _ (c .before .before .before .before .before .before .t .given .1))
 
-switch-requires : tie.Need-switch-requires
-switch-requires c κs = search needs
-
-same-length-2 : tie.Need-same-length-2
-same-length-2 c = search needs
-
 returns-2 : tie.Need-returns-2
 returns-2 c =
     let d = c .before .before .before .before .before .before .before .before .before .before .before .before .dequeue .ensures in
@@ -61,14 +43,14 @@ next-spec =
     tie.close
     (tie.spec
     dequeue-requires
-    enum-known-t
-    enum-told
-    idle-requires
-    same-length
+    (λ c. search needs)
+    (λ c. search needs)
+    (λ c κs. search needs)
+    (λ c. search needs)
     returns
     saved-pc-requires
     saved-cells-requires
     saved-fp-requires
-    switch-requires
-    same-length-2
+    (λ c κs. search needs)
+    (λ c. search needs)
     returns-2)

@@ -8,20 +8,8 @@ use Rattle.wellformed.proofs.Awaiting.{owned-fits, unowned-fits}
 use Rattle.wellformed.proofs.owners.owner_fits.Statement.{statement}
 use Rattle.wellformed.proofs.owners.owner_fits.Tie as tie
 
-owner-requires : tie.Need-owner-requires
-owner-requires c κs = search needs
-
-enum-known-t : tie.Need-enum-known-t
-enum-known-t c = search needs
-
-enum-told : tie.Need-enum-told
-enum-told c = search needs
-
 returns : tie.Need-returns
 returns c = sym (unowned-fits (c .before .before .before .before .args .size) (c .before .before .before .before .args .r) (tablesOf (c .before .before .before .before .args .size) (now (c .before .before .before .before .args .tables))) (c .before .before .before .before .args .m) (sym (c .before .before .owner .ensures) ∙ c .enum-told .given .1))
-
-lives-requires : tie.Need-lives-requires
-lives-requires c κs = search needs
 
 returns-2 : tie.Need-returns-2
 returns-2 c = sym (owned-fits (c .before .before .before .before .before .before .before .before .before .before .before .args .size) (c .before .before .before .before .before .before .before .before .before .before .before .args .r) (tablesOf (c .before .before .before .before .before .before .before .before .before .before .before .args .size) (now (c .before .before .before .before .before .before .before .before .before .before .before .args .tables))) (c .before .before .before .before .before .before .before .before .before .before .before .args .m) _ (sym (c .before .before .before .before .before .before .before .before .before .owner .ensures) ∙ c .before .before .before .before .before .before .before .t .given .1) ∙ rw (lt-ltb _ _ (c .before .before .before .before .if1 .taken), lt-ltb _ _ (c .before .if2 .taken)) (sym (c .lives .ensures)))
@@ -36,11 +24,11 @@ pub owner-fits-spec : {M : Type 1} → statement M
 owner-fits-spec =
     tie.close
     (tie.spec
-    owner-requires
-    enum-known-t
-    enum-told
+    (λ c κs. search needs)
+    (λ c. search needs)
+    (λ c. search needs)
     returns
-    lives-requires
+    (λ c κs. search needs)
     returns-2
     returns-3
     returns-4)

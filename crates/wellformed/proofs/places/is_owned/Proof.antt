@@ -6,15 +6,6 @@ use Rattle.tables.proofs.Owning.{held, unowned}
 use Rattle.wellformed.proofs.places.is_owned.Statement.{statement}
 use Rattle.wellformed.proofs.places.is_owned.Tie as tie
 
-owner-requires : tie.Need-owner-requires
-owner-requires c κs = search needs
-
-enum-told : tie.Need-enum-told
-enum-told c = search needs
-
-enum-told-2 : tie.Need-enum-told-2
-enum-told-2 c = search needs
-
 returns : tie.Need-returns
 returns c = rw (eq-eqb _ _ (unowned _ _ (sym (c .before .before .owner .ensures) ∙ c .enum-told2 .given .1)))
 
@@ -22,4 +13,9 @@ returns-2 : tie.Need-returns-2
 returns-2 c = rw (ne-eqb _ _ (held _ _ _ (sym (c .before .before .owner .ensures) ∙ c .enum-told .given .1) .taken))
 
 pub is-owned-spec : {M : Type 1} → statement M
-is-owned-spec = tie.close (tie.spec owner-requires enum-told enum-told-2 returns returns-2)
+is-owned-spec = tie.close (tie.spec
+    (λ c κs. search needs)
+    (λ c. search needs)
+    (λ c. search needs)
+    returns
+    returns-2)

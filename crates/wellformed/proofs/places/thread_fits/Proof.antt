@@ -4,9 +4,6 @@ use borrow.Author.Needs.{needs}
 use Rattle.wellformed.proofs.places.thread_fits.Statement.{statement}
 use Rattle.wellformed.proofs.places.thread_fits.Tie as tie
 
-place-requires : tie.Need-place-requires
-place-requires c κs = search needs
-
 returns : tie.Need-returns
 returns c = rw (le-leb _ _ (c .if1 .taken), ← (c .before .before .place .ensures))
 
@@ -15,12 +12,6 @@ returns-2 c = rw (lt-leb _ _ (c .before .before .if1 .left), eq-eqb _ _ (c .if2 
 
 returns-3 : tie.Need-returns-3
 returns-3 c = rw (lt-leb _ _ (c .before .before .before .if1 .left), ne-eqb _ _ (c .before .if2 .left), ← (c .before .before .before .before .before .place .ensures), eq-eqb _ _ (c .if3 .taken))
-
-saved-fits-requires : tie.Need-saved-fits-requires
-saved-fits-requires c κs = search needs
-
-wait-fits-requires : tie.Need-wait-fits-requires
-wait-fits-requires c κs = search needs
 
 returns-4 : tie.Need-returns-4
 returns-4 c =
@@ -42,12 +33,12 @@ pub thread-fits-spec : {M : Type 1} → statement M
 thread-fits-spec =
     tie.close
     (tie.spec
-    place-requires
+    (λ c κs. search needs)
     returns
     returns-2
     returns-3
-    saved-fits-requires
-    wait-fits-requires
+    (λ c κs. search needs)
+    (λ c κs. search needs)
     returns-4
     returns-5
     returns-6

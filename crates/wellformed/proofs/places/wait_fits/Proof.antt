@@ -15,27 +15,6 @@ use Rattle.wellformed.proofs.places.wait_fits.Tie as tie
 found : (c : tie.After-awaited-at) (a : Awaited) → c .awaited-at .result ≡ a → waitFits (c .before .before .args .size) (c .before .before .args .r) (tablesOf (c .before .before .args .size) (now (c .before .before .args .tables))) (c .before .before .args .place) ≡ mayWait (c .before .before .args .size) (c .before .before .args .r) (tablesOf (c .before .before .args .size) (now (c .before .before .args .tables))) a
 found c a e = waits (c .before .before .args .size) (c .before .before .args .r) (tablesOf (c .before .before .args .size) (now (c .before .before .args .tables))) (c .before .before .args .place) a (sym (c .awaited-at .ensures) ∙ e)
 
-awaited-at-requires : tie.Need-awaited-at-requires
-awaited-at-requires c κs = search needs
-
-enum-known-m : tie.Need-enum-known-m
-enum-known-m c = search needs
-
-is-owned-requires : tie.Need-is-owned-requires
-is-owned-requires c κs = search needs
-
-enum-known-c : tie.Need-enum-known-c
-enum-known-c c = search needs
-
-enum-known-k : tie.Need-enum-known-k
-enum-known-k c = search needs
-
-enum-known-t : tie.Need-enum-known-t
-enum-known-t c = search needs
-
-has-ended-requires : tie.Need-has-ended-requires
-has-ended-requires c κs = search needs
-
 returns : tie.Need-returns
 returns c = sym (found (c .before .before .before .before .before .before .before) _ (c .before .before .before .before .before .m .given .1) ∙ rw (lt-ltb _ _ (c .before .if1 .taken)) (sym (c .is-owned .ensures)))
 
@@ -58,13 +37,13 @@ pub wait-fits-spec : {M : Type 1} → statement M
 wait-fits-spec =
     tie.close
     (tie.spec
-    awaited-at-requires
-    enum-known-m
-    is-owned-requires
-    enum-known-c
-    enum-known-k
-    enum-known-t
-    has-ended-requires
+    (λ c κs. search needs)
+    (λ c. search needs)
+    (λ c κs. search needs)
+    (λ c. search needs)
+    (λ c. search needs)
+    (λ c. search needs)
+    (λ c κs. search needs)
     returns
     returns-2
     returns-3

@@ -13,12 +13,6 @@ returns-2 c = rw (ne-eqb _ _ (c .before .before .before .before .if1 .taken), ne
 returns-3 : tie.Need-returns-3
 returns-3 c = rw (ne-eqb _ _ (c .before .before .before .before .before .if1 .taken), ne-eqb _ _ (c .before .before .before .if2 .left), ne-eqb _ _ (c .before .if3 .left))
 
-any-ready-requires : tie.Need-any-ready-requires
-any-ready-requires c κs = search needs
-
-any-live-requires : tie.Need-any-live-requires
-any-live-requires c κs = search needs
-
 returns-4 : tie.Need-returns-4
 returns-4 c =
     rw (eq-eqb _ _ (c .before .before .before .before .before .if1 .left), eq-eqb _ _ (c .before .before .before .if4 .taken), ← (c .before .before .any-ready .ensures), not-true (c .before .before .any-ready .result) (c .before .if5 .taken), ← (c .any-live .ensures))
@@ -26,9 +20,6 @@ returns-4 c =
 returns-5 : tie.Need-returns-5
 returns-5 c =
     rw (eq-eqb _ _ (c .before .before .before .before .if1 .left), eq-eqb _ _ (c .before .before .if4 .taken), ← (c .before .any-ready .ensures), not-false (c .before .any-ready .result) (c .if5 .left))
-
-any-live-requires-2 : tie.Need-any-live-requires-2
-any-live-requires-2 c κs = search needs
 
 returns-6 : tie.Need-returns-6
 returns-6 c =
@@ -44,10 +35,10 @@ state-fits-spec =
     returns
     returns-2
     returns-3
-    any-ready-requires
-    any-live-requires
+    (λ c κs. search needs)
+    (λ c κs. search needs)
     returns-4
     returns-5
-    any-live-requires-2
+    (λ c κs. search needs)
     returns-6
     returns-7)
