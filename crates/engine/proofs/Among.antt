@@ -26,8 +26,12 @@ use Rattle.machine.specs.declared.context.Context.{Context}
 use Rattle.machine.specs.declared.registers.Registers.{Registers}
 use Rattle.tables.specs.Idle.{Idle}
 
--- turns that began with m left have come to this, and so many at the front of the line don't live
-pub record Among (size : ℕ) (code : List ℕ) (r : Registers) (m : ℕ) (store₀ : List ℤ) (tables₀ : List ℕ) (t₀ : ℕ) (c₀ : Context) (store : List ℤ) (tables : List ℕ) (t : ℕ) (c : Context) (left skip : ℕ) : Type 0 where
+-- turns of a running machine that began with m left have come to this, and so many at the front of the line don't live
+pub record Among (size : ℕ) (code : List ℕ) (n : ℕ) (words : List ℕ) (k : ℕ) (r : Registers) (m : ℕ) (store₀ : List ℤ) (tables₀ : List ℕ) (t₀ : ℕ) (c₀ : Context) (store : List ℤ) (tables : List ℕ) (t : ℕ) (c : Context) (left skip : ℕ) : Type 0 where
+  pub card : Carded code n
+  pub unpacked : Unpacked code n words k
+  pub small : size ≤ 32
+  pub runs : r .state ≡ running
   pub seat : Seated size store₀ tables₀ (inContext r t₀ c₀)
   pub under : (values : List ℤ) → Sound size (boxed store₀ tables₀ values (inContext r t₀ c₀)) →
       Under size code m store₀ tables₀ values (inContext r t₀ c₀) store tables values (inContext r t c) left
@@ -35,10 +39,15 @@ pub record Among (size : ℕ) (code : List ℕ) (r : Registers) (m : ℕ) (store
   pub store-long : length store ≡ length store₀
   pub tables-long : length tables ≡ length tables₀
 
-module _ {size : ℕ} {code : List ℕ} {n : ℕ} (card : Carded code n) {r : Registers} {m : ℕ} {store₀ : List ℤ} {tables₀ : List ℕ} {t₀ : ℕ} {c₀ : Context} where
-  pub among : Seated size store₀ tables₀ (inContext r t₀ c₀) → Among size code r m store₀ tables₀ t₀ c₀ store₀ tables₀ t₀ c₀ m 0
-  among seat =
+module _ {size : ℕ} {code : List ℕ} {n : ℕ} {words : List ℕ} {k : ℕ} {r : Registers} {m : ℕ} {store₀ : List ℤ} {tables₀ : List ℕ} {t₀ : ℕ} {c₀ : Context} where
+  pub among : Carded code n → Unpacked code n words k → size ≤ 32 → r .state ≡ running → Seated size store₀ tables₀ (inContext r t₀ c₀) →
+      Among size code n words k r m store₀ tables₀ t₀ c₀ store₀ tables₀ t₀ c₀ m 0
+  among card unpacked small runs seat =
       record {
+        card = card;
+        unpacked = unpacked;
+        small = small;
+        runs = runs;
         seat = seat;
         under = λ values h. entered card h;
         idle = tt;
@@ -46,17 +55,17 @@ module _ {size : ℕ} {code : List ℕ} {n : ℕ} (card : Carded code n) {r : Re
         tables-long = refl;
       }
 
-  module _ {store : List ℤ} {tables : List ℕ} {t : ℕ} {c : Context} {left skip : ℕ} (a : Among size code r m store₀ tables₀ t₀ c₀ store tables t c left skip) where
-    pub somewhere : Under size code m store₀ tables₀ (a .seat .values) (inContext r t₀ c₀) store tables (a .seat .values) (inContext r t c) left
+  module _ {store : List ℤ} {tables : List ℕ} {t : ℕ} {c : Context} {left skip : ℕ} (a : Among size code n words k r m store₀ tables₀ t₀ c₀ store tables t c left skip) where
+    somewhere : Under size code m store₀ tables₀ (a .seat .values) (inContext r t₀ c₀) store tables (a .seat .values) (inContext r t c) left
     somewhere = a .under (a .seat .values) (a .seat .sound)
 
-    module _ (runs : r .state ≡ running) (small : size ≤ 32) (below : c .pc < n) where
+    pub live : lives (tablesOf size tables) t ≡ true
+    live = runner-lives size store tables (a .seat .values) (inContext r t c) (somewhere .sound) (a .runs)
+
+    module _ (below : c .pc < n) where
       -- what the next instruction asks
       pub works : Working size (inContext r t c) (length store) tables (a .seat .values)
-      works = working code n card size store tables (a .seat .values) (inContext r t c) (somewhere .sound) runs small below
-
-      pub live : lives (tablesOf size tables) t ≡ true
-      live = runner-lives size store tables (a .seat .values) (inContext r t c) (somewhere .sound) runs
+      works = working code n (a .card) size store tables (a .seat .values) (inContext r t c) (somewhere .sound) (a .runs) (a .small) below
 
       module _ (some : 1 ≤ left) (turning : Turning (instructionAt code (c .pc) .opcode)) (tables′ : List ℕ) (q : Registers) (same : length tables′ ≡ length tables) (acts : Acts size (instructionOf (instructionAt code (c .pc) .opcode) (pos 0)) store tables (inContext r t c) store tables′ q) where
         abbrev i : Instruction
@@ -69,19 +78,17 @@ module _ {size : ℕ} {code : List ℕ} {n : ℕ} (card : Carded code n) {r : Re
         is values =
             does values
             ∙ ap (λ (j : Instruction). executed size n (stateAt size store tables values (inContext r t c)) j .state) (sym (same-turn _ (instructionAt code (c .pc) .operand) turning))
-            ∙ at-pc code n card size (stateAt size store tables values (inContext r t c)) below
+            ∙ at-pc code n (a .card) size (stateAt size store tables values (inContext r t c)) below
 
         -- it is a fault, ..
         pub turn-faults : q .state ≡ faulted → (values : List ℤ) → Sound size (boxed store₀ tables₀ values (inContext r t₀ c₀)) →
             Under size code m store₀ tables₀ values (inContext r t₀ c₀) store tables′ values q left
-        turn-faults wrong values h =
-            one-fault card (a .under values h) some runs same (is values) wrong
+        turn-faults wrong values h = one-fault (a .card) (a .under values h) some (a .runs) same (is values) wrong
 
         -- .. or it was carried out, ..
         pub turn-done : q .state ≢ faulted → (values : List ℤ) → Sound size (boxed store₀ tables₀ values (inContext r t₀ c₀)) →
             Under size code m store₀ tables₀ values (inContext r t₀ c₀) store tables′ values q (left - 1)
-        turn-done fine values h =
-            one-done card (a .under values h) some runs same (is values) fine
+        turn-done fine values h = one-done (a .card) (a .under values h) some (a .runs) same (is values) fine
 
         module _ (on : q .state ≡ running) where
           -- .. and the machine runs on: some thread, in its context
@@ -96,17 +103,21 @@ module _ {size : ℕ} {code : List ℕ} {n : ℕ} (card : Carded code n) {r : Re
           next values h = rw (← only) (turn-done (λ e. omega (arith, on, e)) values h)
 
           pub houses : Housed size store (q .thread) (contextOf q)
-          houses = record { tables = tables′; values = a .seat .values; r = r; runs = runs; sound = next (a .seat .values) (a .seat .sound) .sound }
+          houses = record { tables = tables′; values = a .seat .values; r = r; runs = a .runs; sound = next (a .seat .values) (a .seat .sound) .sound }
 
           -- with a stretch of that thread behind it
-          pub among-more : {words : List ℕ} {k : ℕ} {store′ : List ℤ} {c′ : Context} {rest skip′ : ℕ} → Unpacked code n words k → length store′ ≡ length store → Idle (tablesOf size tables) skip′ →
+          pub among-more : {store′ : List ℤ} {c′ : Context} {rest skip′ : ℕ} → length store′ ≡ length store → Idle (tablesOf size tables) skip′ →
               Inside size words k (left - 1) store (q .thread) (contextOf q) store′ c′ rest →
-              Among size code r m store₀ tables₀ t₀ c₀ store′ tables′ (q .thread) c′ rest skip′
-          among-more {skip′} unpacked long idle inside =
+              Among size code n words k r m store₀ tables₀ t₀ c₀ store′ tables′ (q .thread) c′ rest skip′
+          among-more {skip′} long idle inside =
               record {
+                card = a .card;
+                unpacked = a .unpacked;
+                small = a .small;
+                runs = a .runs;
                 seat = a .seat;
                 under = λ values h.
-                    onward-from card (next values h) (inside code n card unpacked tables′ values r runs (next values h .sound));
+                    onward-from (a .card) (next values h) (inside code n (a .card) (a .unpacked) tables′ values r (a .runs) (next values h .sound));
                 idle =
                     rw (ap (λ (s : State). s .tables) (does (a .seat .values)))
                     (stays-idle size n skip′ _ (stateAt size store tables (a .seat .values) (inContext r t c)) turning live idle);
