@@ -1,7 +1,9 @@
 // The card image: its reader and its code part. The public functions are `read` and `code_part`, which take any
 // input. The others are inner, for the writer and the machine.
 mod fetching;
+pub mod layout;
 mod reader;
+pub mod refusals;
 mod scan;
 
 pub use fetching::Instruction;

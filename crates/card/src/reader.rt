@@ -3,6 +3,8 @@ ghost use mathlib.Core.Path.{_≡_};
 ghost use Prim.Native.Nat.{_+_, _*_, _≤_, _<_};
 ghost use lib.ListN.{length};
 ghost use Rattle.card.specs.Image.{CodePart, Headed, lastOf, lengthWrong, outOfRange, readCode, readOf, sizesWrong, told};
+use crate::layout;
+use crate::refusals;
 use crate::scan::Scan;
 
 // The reader's answer.
@@ -33,8 +35,8 @@ fn wrong_sizes(image: &[u8]) -> bool
     requires { ⌜ 9 ≤ length (now image) ⌝ }
     ensures { λ r. ⌜ r ≡ sizesWrong (now (image .entry)) ⌝ }
 {
-    let cells = instruction::half_at(image, 5) as usize;
-    let n = instruction::half_at(image, 7) as usize;
+    let cells = instruction::half_at(image, layout::CELLS) as usize;
+    let n = instruction::half_at(image, layout::COUNT) as usize;
     let following = instruction::word_at(image, 0) as usize;
     if out_of_range(cells) {
         return true;
@@ -58,14 +60,14 @@ fn read_code(image: &[u8]) -> Reading
     requires { ⌜ Headed (now image) ⌝ }
     ensures { λ r. ⌜ told r ≡ readCode (now (image .entry)) ⌝ }
 {
-    let n = instruction::half_at(image, 7) as usize;
-    match crate::scan::scan_code(&image[9..], n, last_of(n)) {
+    let n = instruction::half_at(image, layout::COUNT) as usize;
+    match crate::scan::scan_code(&image[layout::CODE..], n, last_of(n)) {
         Scan::Bad { number, index } => Reading::Refused {
             number,
-            place: 9 + 4 * index,
+            place: layout::CODE + 4 * index,
         },
         Scan::Fine => Reading::Accepted {
-            cells: instruction::half_at(image, 5),
+            cells: instruction::half_at(image, layout::CELLS),
         },
     }
 }
@@ -75,20 +77,20 @@ pub fn read(image: &[u8]) -> Reading
 {
     if wrong_length(image) {
         return Reading::Refused {
-            number: 1,
+            number: refusals::LENGTH,
             place: 0,
         };
     }
-    if image[4] != 1 {
+    if image[layout::VERSION] != layout::THE_VERSION {
         return Reading::Refused {
-            number: 2,
-            place: 4,
+            number: refusals::VERSION,
+            place: layout::VERSION,
         };
     }
     if wrong_sizes(image) {
         return Reading::Refused {
-            number: 3,
-            place: 5,
+            number: refusals::SIZES,
+            place: layout::CELLS,
         };
     }
     read_code(image)
@@ -99,7 +101,7 @@ pub fn code_part(image: &[u8]) -> &[u8]
     ensures { λ r. ⌜ CodePart (image .entry) r ⌝ }
 {
     match read(image) {
-        Reading::Accepted { cells: _ } => &image[9..],
+        Reading::Accepted { cells: _ } => &image[layout::CODE..],
         Reading::Refused {
             number: _,
             place: _,

@@ -5,6 +5,7 @@ ghost use lib.IntN.{pos};
 ghost use lib.ListN.{length};
 ghost use Rattle.instruction.specs.Rules.{checkOf};
 ghost use Rattle.card.specs.Code.{firstBad, scanOf, wordsOf};
+use crate::refusals;
 use instruction::Verdict;
 
 // What the search finds: the refusal number and the index of the first bad instruction, if there is one.
@@ -19,8 +20,14 @@ fn judge(w: u32, last: i32, index: usize) -> Scan
 {
     match instruction::check(w, last) {
         Verdict::Fine => Scan::Fine,
-        Verdict::BadOpcode => Scan::Bad { number: 4, index },
-        Verdict::BadOperand => Scan::Bad { number: 5, index },
+        Verdict::BadOpcode => Scan::Bad {
+            number: refusals::OPCODE,
+            index,
+        },
+        Verdict::BadOperand => Scan::Bad {
+            number: refusals::OPERAND,
+            index,
+        },
     }
 }
 

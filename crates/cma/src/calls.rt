@@ -6,6 +6,8 @@ ghost use Rattle.outcome.specs.Outcome.{Gives};
 ghost use Rattle.machine.specs.Calls.{boxed, runCall, stepCall};
 ghost use Rattle.machine.specs.Size.{full};
 use card::Reading;
+use card::layout;
+use card::refusals;
 use machine::Registers;
 use machine::sizes;
 use outcome::Outcome;
@@ -38,15 +40,15 @@ fn judge(
             place,
         },
         Reading::Accepted { cells: _ } => {
-            if store.len() != 256 * size {
+            if store.len() != sizes::STORE * size {
                 return Verdict::Refused {
-                    number: 6,
+                    number: refusals::STORE,
                     place: 0,
                 };
             }
             if !wellformed::well_formed(r, tables, values, size) {
                 return Verdict::Refused {
-                    number: 7,
+                    number: refusals::TABLES,
                     place: 0,
                 };
             }
@@ -75,7 +77,7 @@ fn proceed(
         (now (store .exit)) (now (tables .exit)) (now (values .exit)) ⌝ }
 {
     // The code part is what follows the header.
-    let code = &image[9..];
+    let code = &image[layout::CODE..];
     let n = code.len() / 4;
     let k = card::unpack(code, n, words);
     let p = engine::run(code, words, store, tables, values, size, n, k, r, m);

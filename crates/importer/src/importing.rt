@@ -12,6 +12,8 @@ use crate::header::Header;
 use crate::header::read_header;
 use crate::lines::Lines;
 use crate::lines::read_lines;
+use card::layout;
+use card::refusals;
 use writer::Writing;
 
 // The most instructions that a card has.
@@ -31,9 +33,9 @@ fn renumbered(answer: Writing) -> Importing
     match answer {
         Writing::Written { size } => Importing::Imported { size },
         Writing::Refused { number, place } => {
-            if number == 8 {
+            if number == refusals::NO_ROOM {
                 Importing::Refused {
-                    number: 43,
+                    number: refusals::TEXT_NO_ROOM,
                     place: 0,
                 }
             } else {
@@ -50,8 +52,8 @@ fn write_card(cells: usize, count: usize, words: &[u32], out: &mut [u8]) -> Impo
 {
     if MOST < count {
         return Importing::Refused {
-            number: 3,
-            place: 5,
+            number: refusals::SIZES,
+            place: layout::CELLS,
         };
     }
     let answer = writer::write(cells, &words[..count], out);
@@ -77,7 +79,7 @@ pub fn import(text: &[u8], out: &mut [u8]) -> Importing
     match read_header(text) {
         Header::Cells { cells, next } => import_lines(text, cells, next, out),
         Header::Wrong => Importing::Refused {
-            number: 40,
+            number: refusals::TEXT_HEADER,
             place: 0,
         },
     }

@@ -7,6 +7,7 @@ ghost use Rattle.importer.specs.Coding.{Stores, addressRead, codedLine, 
 ghost use Rattle.importer.specs.Forms.{lineRead, linesRead};
 use crate::items::Entry;
 use crate::items::read_item;
+use card::refusals;
 
 pub enum Address {
     Number(usize),
@@ -50,12 +51,12 @@ fn placed(address: Address, word: u32, index: usize) -> Line
     ensures { λ r. ⌜ r ≡ placedLine address word index ⌝ }
 {
     match address {
-        Address::Wrong => Line::Bad(41),
+        Address::Wrong => Line::Bad(refusals::TEXT_LINE),
         Address::Number(at) => {
             if at == index {
                 Line::Word(word)
             } else {
-                Line::Bad(42)
+                Line::Bad(refusals::TEXT_ADDRESS)
             }
         }
     }
@@ -67,10 +68,10 @@ fn read_line(line: &[u8], index: usize) -> Line
 {
     let end = words::find(line, 0, b' ');
     if end == line.len() {
-        return Line::Bad(41);
+        return Line::Bad(refusals::TEXT_LINE);
     }
     match read_item(&line[end + 1..]) {
-        Entry::Wrong => Line::Bad(41),
+        Entry::Wrong => Line::Bad(refusals::TEXT_LINE),
         Entry::Word(word) => placed(read_address(&line[..end]), word, index),
     }
 }
@@ -82,7 +83,7 @@ fn next_line(text: &[u8], at: usize, index: usize) -> Next
 {
     let end = words::find(text, at, b'\n');
     if end == text.len() {
-        return Next::Bad(41);
+        return Next::Bad(refusals::TEXT_LINE);
     }
     match read_line(&text[at..end], index) {
         Line::Word(word) => Next::Line {

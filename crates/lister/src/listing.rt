@@ -7,6 +7,8 @@ ghost use Rattle.lister.specs.Listing.{Leaves, Lists, contentOf, lineOf}
 use crate::lines::ROOM;
 use crate::writer::put_one;
 use card::Reading;
+use card::layout;
+use card::refusals;
 
 // The answer.
 pub enum Listing {
@@ -24,9 +26,9 @@ fn content_of(image: &[u8], line: usize) -> u32
     ensures { λ r. ⌜ r ≡ contentOf (now (image .entry)) line ⌝ }
 {
     if line == 0 {
-        return instruction::half_at(image, 5);
+        return instruction::half_at(image, layout::CELLS);
     }
-    instruction::word_at(image, 9 + 4 * (line - 1))
+    instruction::word_at(image, layout::CODE + 4 * (line - 1))
 }
 
 // Lists a line of an image that is accepted: it is made whole first, so that a refusal leaves `out` as it was.
@@ -36,7 +38,7 @@ fn list_accepted(image: &[u8], line: usize, out: &mut [u8]) -> Listing
         ⌜ Leaves (lineOf (now (image .entry)) line (length (now (out .entry)))) (now (image .entry)) line
         (now (out .entry)) r (now (out .exit)) ⌝ }
 {
-    let n = instruction::half_at(image, 7) as usize;
+    let n = instruction::half_at(image, layout::COUNT) as usize;
     if n < line {
         return Listing::Past;
     }
@@ -44,7 +46,7 @@ fn list_accepted(image: &[u8], line: usize, out: &mut [u8]) -> Listing
     let length = put_one(&mut text, line, content_of(image, line));
     if out.len() < length {
         return Listing::Refused {
-            number: 43,
+            number: refusals::TEXT_NO_ROOM,
             place: 0,
         };
     }

@@ -6,7 +6,9 @@ ghost use Rattle.machine.specs.Calls.{boxed, setUp};
 ghost use Rattle.machine.specs.Registers.{zeros};
 ghost use Rattle.machine.specs.Size.{full};
 use card::Reading;
+use card::refusals;
 use machine::Answer;
+use machine::sizes;
 use outcome::Outcome;
 use outcome::no_registers;
 use outcome::refused;
@@ -28,14 +30,14 @@ fn set_up_box(
     match card::read(image) {
         Reading::Refused { number, place } => refused(number as usize, place, no_registers()),
         Reading::Accepted { cells } => {
-            if store.len() != 256 * size {
-                return refused(6, 0, no_registers());
+            if store.len() != sizes::STORE * size {
+                return refused(refusals::STORE, 0, no_registers());
             }
-            if tables.len() != 7 * size {
-                return refused(7, 0, no_registers());
+            if tables.len() != sizes::TABLES * size {
+                return refused(refusals::TABLES, 0, no_registers());
             }
-            if values.len() != 2 * size {
-                return refused(7, 0, no_registers());
+            if values.len() != sizes::VALUES * size {
+                return refused(refusals::TABLES, 0, no_registers());
             }
             let registers = setup::start(store, tables, values, size, cells as usize);
             Outcome {

@@ -5,6 +5,8 @@ ghost use lib.ListN.{length};
 ghost use lib.Seq.{sets};
 ghost use Rattle.writer.specs.Writing.{Wrote, headerOf, wordsBytes};
 use card::Scan;
+use card::layout;
+use card::refusals;
 
 // The writer's answer.
 pub enum Writing {
@@ -19,9 +21,9 @@ fn put_header(out: &mut [u8], cells: u32, n: u32)
     ensures { λ _. ⌜ now (out .exit) ≡ sets (now (out .entry)) 0 (headerOf cells n) ⌝ }
 {
     instruction::put_word(out, 0, 5 + 4 * n);
-    out[4] = 1;
-    instruction::put_half(out, 5, cells);
-    instruction::put_half(out, 7, n);
+    out[layout::VERSION] = layout::THE_VERSION;
+    instruction::put_half(out, layout::CELLS, cells);
+    instruction::put_half(out, layout::COUNT, n);
 }
 
 // Writes the instructions, from byte 9.
@@ -31,7 +33,7 @@ fn put_code(out: &mut [u8], list: &[u32])
 {
     let mut i = 0;
     while i < list.len() {
-        instruction::put_word(out, 9 + 4 * i, list[i]);
+        instruction::put_word(out, layout::CODE + 4 * i, list[i]);
         i += 1;
     }
 }
@@ -43,14 +45,14 @@ pub fn write(cells: usize, list: &[u32], out: &mut [u8]) -> Writing
     let n = list.len();
     if card::out_of_range(cells) {
         return Writing::Refused {
-            number: 3,
-            place: 5,
+            number: refusals::SIZES,
+            place: layout::CELLS,
         };
     }
     if card::out_of_range(n) {
         return Writing::Refused {
-            number: 3,
-            place: 5,
+            number: refusals::SIZES,
+            place: layout::CELLS,
         };
     }
     if let Scan::Bad { number, index } = card::scan_words(list, card::last_of(n)) {
@@ -59,10 +61,10 @@ pub fn write(cells: usize, list: &[u32], out: &mut [u8]) -> Writing
             place: index,
         };
     }
-    let size = 9 + 4 * n;
+    let size = layout::CODE + 4 * n;
     if out.len() < size {
         return Writing::Refused {
-            number: 8,
+            number: refusals::NO_ROOM,
             place: 0,
         };
     }
