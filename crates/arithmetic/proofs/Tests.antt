@@ -19,11 +19,14 @@ ends (pos n) = sym (leb·suc-suc n 2147483647)
 ends (negsuc n) = and-true _ ∙ sym (leb·suc-suc n 2147483647)
 
 -- the same of a number as it is read back from its 64 bits
-pub in-range : {v : ℤ} → SFits w64 v → (leZ (negsuc 2147483647) (toZ w64 (ofZ w64 v)) && leZ (toZ w64 (ofZ w64 v)) (pos 2147483647)) ≡ ltb (mag v) 2147483648
+pub in-range : {v : ℤ} → SFits w64 v →
+    (leZ (negsuc 2147483647) (toZ w64 (ofZ w64 v)) && leZ (toZ w64 (ofZ w64 v)) (pos 2147483647))
+    ≡ ltb (mag v) 2147483648
 in-range {v} f = rw (toZ-ofZ f) (ends v)
 
 -- a test of x and y is both orders of m and n, where x and y are equal exactly if m and n are
-same-test : (x y m n : ℕ) → (x ≡ y → m ≡ n) → (m ≡ n → x ≡ y) → Dec (m ≤ n) → Dec (n ≤ m) → eqb x y ≡ (leb m n && leb n m)
+same-test : (x y m n : ℕ) → (x ≡ y → m ≡ n) → (m ≡ n → x ≡ y) → Dec (m ≤ n) → Dec (n ≤ m) →
+    eqb x y ≡ (leb m n && leb n m)
 same-test x y m n to from (yes p) (yes q) = rw (eq-eqb x y (from (omega arith)), le-leb m n p, le-leb n m q)
 same-test x y m n to from (yes p) (no q) = rw (ne-eqb x y (λ e. omega (arith, to e)), le-leb m n p, lt-leb n m (omega arith))
 same-test x y m n to from (no p) q = rw (ne-eqb x y (λ e. omega (arith, to e)), lt-leb m n (omega arith))

@@ -87,7 +87,8 @@ pub accepts : (image : List ℕ) (cells : ℕ) → readOf image ≡ gives cells 
 unfolding readOf readCode
 accepts image cells e = first (lengthWrong image) refl e
   where
-    third : lengthWrong image ≡ false → versionWrong image ≡ false → (b : Bool) → sizesWrong image ≡ b → cond b (refuses 3 5) (readCode image) ≡ gives cells → Accepts image cells
+    third : lengthWrong image ≡ false → versionWrong image ≡ false → (b : Bool) → sizesWrong image ≡ b →
+        cond b (refuses 3 5) (readCode image) ≡ gives cells → Accepts image cells
     third l v true t r = never r
     third l v false t r =
         let g = good-code (cellsOf image) _ r in
@@ -99,11 +100,14 @@ accepts image cells e = first (lengthWrong image) refl e
           code = g .1;
         }
 
-    second : lengthWrong image ≡ false → (b : Bool) → versionWrong image ≡ b → cond b (refuses 2 4) (cond (sizesWrong image) (refuses 3 5) (readCode image)) ≡ gives cells → Accepts image cells
+    second : lengthWrong image ≡ false → (b : Bool) → versionWrong image ≡ b →
+        cond b (refuses 2 4) (cond (sizesWrong image) (refuses 3 5) (readCode image)) ≡ gives cells →
+        Accepts image cells
     second l true v r = never r
     second l false v r = third l v (sizesWrong image) refl r
 
-    first : (b : Bool) → lengthWrong image ≡ b → cond b (refuses 1 0) (cond (versionWrong image) (refuses 2 4) (cond (sizesWrong image) (refuses 3 5) (readCode image))) ≡ gives cells → Accepts image cells
+    first : (b : Bool) → lengthWrong image ≡ b →
+        cond b (refuses 1 0) (cond (versionWrong image) (refuses 2 4) (cond (sizesWrong image) (refuses 3 5) (readCode image))) ≡ gives cells → Accepts image cells
     first true l r = never r
     first false l r = second l (versionWrong image) refl r
 
@@ -132,18 +136,21 @@ accepted image cells a =
     rw (l, eq-eqb _ _ (a .version), s, a .code) (ap gives (a .globals))
 
 -- a refusal's number is 1 to 5
-refused-code : (g : ℕ) (last : ℤ) (ws : List ℕ) (s : Scan) {number place : ℕ} → firstBad last 0 ws ≡ s → placed g s ≡ refuses number place → (1 ≤ number) × (number ≤ 5)
+refused-code : (g : ℕ) (last : ℤ) (ws : List ℕ) (s : Scan) {number place : ℕ} → firstBad last 0 ws ≡ s →
+    placed g s ≡ refuses number place → (1 ≤ number) × (number ≤ 5)
 refused-code g last ws Fine f e = absurd (let z : _≡_ {A = ℕ} 0 1 = cc in omega arith)
 refused-code g last ws (Bad k index) {number} f e =
     let same : k ≡ number = cc in
     let found = found-number last ws 0 f in
     omega arith
 
-pub refused-number : (image : List ℕ) (number place : ℕ) → readOf image ≡ refuses number place → (1 ≤ number) × (number ≤ 5)
+pub refused-number : (image : List ℕ) (number place : ℕ) → readOf image ≡ refuses number place →
+    (1 ≤ number) × (number ≤ 5)
 unfolding readOf readCode
 refused-number image number place e = by-test (lengthWrong image) (versionWrong image) (sizesWrong image) e
   where
-    by-test : (a b c : Bool) → cond a (refuses 1 0) (cond b (refuses 2 4) (cond c (refuses 3 5) (readCode image))) ≡ refuses number place → (1 ≤ number) × (number ≤ 5)
+    by-test : (a b c : Bool) → cond a (refuses 1 0) (cond b (refuses 2 4) (cond c (refuses 3 5) (readCode image)))
+        ≡ refuses number place → (1 ≤ number) × (number ≤ 5)
     by-test true b c r = let same : 1 ≡ number = cc in omega arith
     by-test false true c r = let same : 2 ≡ number = cc in omega arith
     by-test false false true r = let same : 3 ≡ number = cc in omega arith

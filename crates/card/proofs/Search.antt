@@ -15,7 +15,8 @@ use Rattle.card.specs.Code.{firstBad, orElse, scanOf}
 use Rattle.card.specs.declared.scan.Scan.the-variants.{Fine, Bad}
 
 -- what the search finds lies in the list
-pub index-below : (last : ℤ) (ws : List ℕ) (i : ℕ) {number index : ℕ} → firstBad last i ws ≡ Bad number index → index < i + length ws
+pub index-below : (last : ℤ) (ws : List ℕ) (i : ℕ) {number index : ℕ} → firstBad last i ws ≡ Bad number index →
+    index < i + length ws
 unfolding firstBad
 index-below last [] i e = absurd (let z : _≡_ {A = ℕ} 0 1 = cc in omega arith)
 index-below last (w ∷ ws) i {number} {index} e = below (checkOf last w) (index-below last ws (suc i)) e
@@ -28,7 +29,8 @@ index-below last (w ∷ ws) i {number} {index} e = below (checkOf last w) (index
 
 module _ (last : ℤ) (ws : List ℕ) (i : ℕ) where
   -- the search from i looks at word i first
-  from : i < length ws → firstBad last i (drop i ws) ≡ orElse (scanOf (checkOf last (getD ws i 0)) i) (firstBad last (suc i) (drop (suc i) ws))
+  from : i < length ws → firstBad last i (drop i ws)
+      ≡ orElse (scanOf (checkOf last (getD ws i 0)) i) (firstBad last (suc i) (drop (suc i) ws))
   unfolding firstBad
   from h = rw (drop-cons ws i 0 h)
 
@@ -38,15 +40,18 @@ module _ (last : ℤ) (ws : List ℕ) (i : ℕ) where
   ends h = rw (drop-of-length-le ws h)
 
   -- a bad word ends the search
-  pub stops : (w number index : ℕ) → i < length ws → getD ws i 0 ≡ w → scanOf (checkOf last w) i ≡ Bad number index → firstBad last i (drop i ws) ≡ Bad number index
+  pub stops : (w number index : ℕ) → i < length ws → getD ws i 0 ≡ w → scanOf (checkOf last w) i ≡ Bad number index →
+      firstBad last i (drop i ws) ≡ Bad number index
   stops w number index h e bad = rw (from h, e, bad)
 
   -- after a good one it goes on
-  pub goes-on : (w : ℕ) → i < length ws → getD ws i 0 ≡ w → scanOf (checkOf last w) i ≡ Fine → firstBad last i (drop i ws) ≡ firstBad last (i + 1) (drop (i + 1) ws)
+  pub goes-on : (w : ℕ) → i < length ws → getD ws i 0 ≡ w → scanOf (checkOf last w) i ≡ Fine →
+      firstBad last i (drop i ws) ≡ firstBad last (i + 1) (drop (i + 1) ws)
   goes-on w h e good = rw (from h, e, good, add-one)
 
 -- what the search finds has number 4 or 5
-pub found-number : (last : ℤ) (ws : List ℕ) (i : ℕ) {number index : ℕ} → firstBad last i ws ≡ Bad number index → (4 ≤ number) × (number ≤ 5)
+pub found-number : (last : ℤ) (ws : List ℕ) (i : ℕ) {number index : ℕ} → firstBad last i ws ≡ Bad number index →
+    (4 ≤ number) × (number ≤ 5)
 unfolding firstBad
 found-number last [] i e = absurd (let z : _≡_ {A = ℕ} 0 1 = cc in omega arith)
 found-number last (w ∷ ws) i {number} {index} e = by-verdict (checkOf last w) (found-number last ws (suc i)) e

@@ -26,7 +26,8 @@ module _ {x z : ℤ} (wide : mag x < 2 ^ 63) (e : x ≡ z) where
   read-wide = toZ-ofZ (sfits-of {w = w64} {z = x} wide) ∙ e
 
   -- the code tests whether it does not fit
-  pub fits-unless : {b t : Bool} → b ≡ ltb (mag (toZ w64 (ofZ w64 x))) 2147483648 → not b ≡ t → ltb (mag z) 2147483648 ≡ not t
+  pub fits-unless : {b t : Bool} → b ≡ ltb (mag (toZ w64 (ofZ w64 x))) 2147483648 → not b ≡ t →
+      ltb (mag z) 2147483648 ≡ not t
   fits-unless {b} h k = sym (rw read-wide at h) ∙ sym (Bool·not-not b) ∙ ap not k
 
   -- one that fits is the same in 32 bits

@@ -19,11 +19,13 @@ use Rattle.machine.specs.Size.{stackAt}
 use Rattle.machine.specs.declared.registers.Registers.{Registers}
 
 -- what the code finds by its tests
-pub too-few : (size : ℕ) (store : List ℤ) (r : Registers) (at limit missing : ℕ) → r .cells < at → Fault 21 ≡ numberAt size store r at limit missing
+pub too-few : (size : ℕ) (store : List ℤ) (r : Registers) (at limit missing : ℕ) → r .cells < at →
+    Fault 21 ≡ numberAt size store r at limit missing
 unfolding numberAt
 too-few size store r at limit missing h = rw (lt-ltb (r .cells) at h)
 
-pub found : (size : ℕ) (store : List ℤ) (r : Registers) (at limit missing : ℕ) (i : Index) → at ≤ r .cells → indexOf (getD store (stackAt size (r .thread) (r .cells - at)) (pos 0)) limit ≡ i →
+pub found : (size : ℕ) (store : List ℤ) (r : Registers) (at limit missing : ℕ) (i : Index) → at ≤ r .cells →
+    indexOf (getD store (stackAt size (r .thread) (r .cells - at)) (pos 0)) limit ≡ i →
     named i missing ≡ numberAt size store r at limit missing
 unfolding numberAt
 found size store r at limit missing i h e = rw (le-ltb (r .cells) at h, e)
@@ -48,26 +50,31 @@ module _ (size : ℕ) (store : List ℤ) (r : Registers) (at limit missing : ℕ
           let there : indexOf cell limit ≡ In a = h ∙ ap In same in record { enough = k; index = there; below = in-below cell limit a there }
       by-index Out h k e = absurd (let z : _≡_ {A = ℕ} 0 1 = cc in omega arith)
 
-      by-cells : (b : Bool) → ltb (r .cells) at ≡ b → cond b (Fault 21) (named (indexOf cell limit) missing) ≡ Number a → Passed a
+      by-cells : (b : Bool) → ltb (r .cells) at ≡ b →
+          cond b (Fault 21) (named (indexOf cell limit) missing) ≡ Number a → Passed a
       by-cells true h e = absurd (let z : _≡_ {A = ℕ} 0 1 = cc in omega arith)
       by-cells false h e = by-index (indexOf cell limit) refl (ltb-false (r .cells) at h) e
 
   -- the tests' outcome with it
-  pub goes-on : (a : ℕ) (f : ℕ → Outcome) → numberAt size store r at limit missing ≡ Number a → needs at (r .cells) (within cell limit missing f) ≡ f a
+  pub goes-on : (a : ℕ) (f : ℕ → Outcome) → numberAt size store r at limit missing ≡ Number a →
+      needs at (r .cells) (within cell limit missing f) ≡ f a
   goes-on a f e = let p = passed a e in needs-met at (r .cells) (within cell limit missing f) (p .enough) ∙ within-in cell limit missing f a (p .index)
 
   -- .. and with a fault
-  pub stops : (k : ℕ) (f : ℕ → Outcome) → numberAt size store r at limit missing ≡ Fault k → needs at (r .cells) (within cell limit missing f) ≡ fault k
+  pub stops : (k : ℕ) (f : ℕ → Outcome) → numberAt size store r at limit missing ≡ Fault k →
+      needs at (r .cells) (within cell limit missing f) ≡ fault k
   unfolding numberAt
   stops k f e = by-cells (ltb (r .cells) at) refl e
     where
-      by-index : (i : Index) → indexOf cell limit ≡ i → at ≤ r .cells → named i missing ≡ Fault k → needs at (r .cells) (within cell limit missing f) ≡ fault k
+      by-index : (i : Index) → indexOf cell limit ≡ i → at ≤ r .cells → named i missing ≡ Fault k →
+          needs at (r .cells) (within cell limit missing f) ≡ fault k
       by-index (In b) h m e = absurd (let z : _≡_ {A = ℕ} 0 1 = cc in omega arith)
       by-index Out h m e =
           let same : missing ≡ k = cc in
           needs-met at (r .cells) (within cell limit missing f) m ∙ within-out cell limit missing f h ∙ ap fault same
 
-      by-cells : (b : Bool) → ltb (r .cells) at ≡ b → cond b (Fault 21) (named (indexOf cell limit) missing) ≡ Fault k → needs at (r .cells) (within cell limit missing f) ≡ fault k
+      by-cells : (b : Bool) → ltb (r .cells) at ≡ b → cond b (Fault 21) (named (indexOf cell limit) missing) ≡ Fault k →
+          needs at (r .cells) (within cell limit missing f) ≡ fault k
       by-cells true h e = let same : 21 ≡ k = cc in needs-less at (r .cells) (within cell limit missing f) (ltb-true (r .cells) at h) ∙ ap fault same
       by-cells false h e = by-index (indexOf cell limit) refl (ltb-false (r .cells) at h) e
 
@@ -85,10 +92,12 @@ module _ (size : ℕ) (store : List ℤ) (r : Registers) (limit limit′ missing
   top-there : (a : ℕ) → 2 ≤ r .cells → numberAt size store r 1 limit missing ≡ Number a → both ≡ second a
   top-there a h e = needs-met 2 _ _ h ∙ within-in _ _ _ _ _ (passed size store r 1 limit missing a e .index)
 
-  pub below-missing : (a k : ℕ) → 2 ≤ r .cells → numberAt size store r 1 limit missing ≡ Number a → numberAt size store r 2 limit′ missing′ ≡ Fault k →
+  pub below-missing : (a k : ℕ) → 2 ≤ r .cells → numberAt size store r 1 limit missing ≡ Number a →
+      numberAt size store r 2 limit′ missing′ ≡ Fault k →
       both ≡ fault k
   below-missing a k h e g = top-there a h e ∙ sym (needs-met 2 _ _ h) ∙ stops size store r 2 limit′ missing′ k (f a) g
 
-  pub both-there : (a b : ℕ) → numberAt size store r 1 limit missing ≡ Number a → numberAt size store r 2 limit′ missing′ ≡ Number b → both ≡ f a b
+  pub both-there : (a b : ℕ) → numberAt size store r 1 limit missing ≡ Number a →
+      numberAt size store r 2 limit′ missing′ ≡ Number b → both ≡ f a b
   both-there a b e g =
       let there = passed size store r 2 limit′ missing′ b g in top-there a (there .enough) e ∙ within-in _ _ _ _ _ (there .index)

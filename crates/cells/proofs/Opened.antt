@@ -40,7 +40,9 @@ module _ (z : ℤ) (limit made most : ℕ) where
       split true a = refl
       split false a = refl
 
-      by-index : (i : Index) → indexOf z limit ≡ i → within z limit number (λ a. cond (ltb made most) (f a) full) ≡ opened (openingOf z limit made most) f full number
+      by-index : (i : Index) → indexOf z limit ≡ i →
+          within z limit number (λ a. cond (ltb made most) (f a) full)
+          ≡ opened (openingOf z limit made most) f full number
       by-index (In a) k =
           within-in z limit number (λ b. cond (ltb made most) (f b) full) a k ∙ split (ltb made most) a
           ∙ ap (λ (i : Index). opened (openingAt i (ltb made most)) f full number) (sym k)

@@ -33,7 +33,8 @@ unfolding rooms
 rooms-met k cells o h = rw (le-ltb 128 (cells + k) h)
 
 -- a range check, by what the code's check answered
-pub within-in : (z : ℤ) (limit number : ℕ) (f : ℕ → Outcome) (a : ℕ) → indexOf z limit ≡ In a → within z limit number f ≡ f a
+pub within-in : (z : ℤ) (limit number : ℕ) (f : ℕ → Outcome) (a : ℕ) → indexOf z limit ≡ In a →
+    within z limit number f ≡ f a
 unfolding within
 within-in (pos b) limit number f a e = by-test (ltb b limit) e
   where
@@ -42,7 +43,8 @@ within-in (pos b) limit number f a e = by-test (ltb b limit) e
     by-test false k = absurd (let z : _≡_ {A = ℕ} 0 1 = cc in omega arith)
 within-in (negsuc b) limit number f a e = absurd (let z : _≡_ {A = ℕ} 0 1 = cc in omega arith)
 
-pub within-out : (z : ℤ) (limit number : ℕ) (f : ℕ → Outcome) → indexOf z limit ≡ Out → within z limit number f ≡ fault number
+pub within-out : (z : ℤ) (limit number : ℕ) (f : ℕ → Outcome) → indexOf z limit ≡ Out →
+    within z limit number f ≡ fault number
 unfolding within
 within-out (pos b) limit number f e = by-test (ltb b limit) e
   where
@@ -73,13 +75,16 @@ pub read-back : {x z : ℤ} → mag x < 2 ^ 31 → x ≡ z → toZ w32 (ofZ w32 
 read-back {x} f e = toZ-ofZ (sfits-of {w = w32} {z = x} f) ∙ e
 
 -- what the check answered of such a value, or of cell FP + k
-pub of-cell : (limit : ℕ) {x z : ℤ} {r : Index} → mag x < 2 ^ 31 → x ≡ z → r ≡ indexOf (toZ w32 (ofZ w32 x)) limit → indexOf z limit ≡ r
+pub of-cell : (limit : ℕ) {x z : ℤ} {r : Index} → mag x < 2 ^ 31 → x ≡ z → r ≡ indexOf (toZ w32 (ofZ w32 x)) limit →
+    indexOf z limit ≡ r
 of-cell limit f e h = sym (rw (read-back f e) at h)
 
-pub below-limit : (x : ℤ) (limit : ℕ) {r : Index} {a : ℕ} → mag x < 2 ^ 31 → r ≡ indexOf (toZ w32 (ofZ w32 x)) limit → r ≡ In a → a < limit
+pub below-limit : (x : ℤ) (limit : ℕ) {r : Index} {a : ℕ} → mag x < 2 ^ 31 → r ≡ indexOf (toZ w32 (ofZ w32 x)) limit →
+    r ≡ In a → a < limit
 below-limit x limit {a} f h k = in-below x limit a (of-cell limit {x = x} f refl h ∙ k)
 
-pub of-frame : (fp limit : ℕ) {k : ℤ} {r : Index} → SFits w32 k → r ≡ indexOf (pos fp +ℤ toZ w32 (ofZ w32 k)) limit → indexOf (pos fp +ℤ k) limit ≡ r
+pub of-frame : (fp limit : ℕ) {k : ℤ} {r : Index} → SFits w32 k → r ≡ indexOf (pos fp +ℤ toZ w32 (ofZ w32 k)) limit →
+    indexOf (pos fp +ℤ k) limit ≡ r
 of-frame fp limit f h = sym (rw (toZ-ofZ f) at h)
 
 -- a value that is not below a number is a number

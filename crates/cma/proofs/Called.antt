@@ -27,11 +27,13 @@ header image cells e =
     let l = accepts image cells e .long in
     omega (arith, l .follows, l .least)
 
-pub its-code : (image : List ℕ) (cells : ℕ) → readOf image ≡ gives cells → take (length image - 9) (drop 9 image) ≡ codeOf image
+pub its-code : (image : List ℕ) (cells : ℕ) → readOf image ≡ gives cells →
+    take (length image - 9) (drop 9 image) ≡ codeOf image
 its-code image cells e = rest 9 image ∙ sym (code-part image cells e)
 
 -- the code part of an accepted card, and its number of instructions
-pub carded : (image code : List ℕ) (cells : ℕ) → readOf image ≡ gives cells → code ≡ codeOf image → Carded code (length code / 4)
+pub carded : (image code : List ℕ) (cells : ℕ) → readOf image ≡ gives cells → code ≡ codeOf image →
+    Carded code (length code / 4)
 carded image code cells e same =
     let a = accepts image cells e in
     let bytes : length (drop 9 image) ≡ 4 * countOf image = omega (arith, length-drop 9 image, a .long .follows, a .sized .exact) in

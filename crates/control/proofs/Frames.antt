@@ -45,7 +45,8 @@ module _ (size n : ℕ) (s : State) where
   frame-low z a e h = rw (in-value z (s .regs .fp) a e, lt-leb 2 a h)
 
   -- another frame
-  pub frame-in : (z : ℤ) (a : ℕ) → indexOf z (s .regs .fp) ≡ In a → 2 ≤ a → frame size n s z ≡ within (cell size s (s .regs .fp)) n 26 λ pc. done (returned size n s a pc)
+  pub frame-in : (z : ℤ) (a : ℕ) → indexOf z (s .regs .fp) ≡ In a → 2 ≤ a →
+      frame size n s z ≡ within (cell size s (s .regs .fp)) n 26 λ pc. done (returned size n s a pc)
   unfolding frame
   frame-in z a e h = rw (in-value z (s .regs .fp) a e, le-leb 2 a h, lt-ltb a (s .regs .fp) (in-below z (s .regs .fp) a e))
 

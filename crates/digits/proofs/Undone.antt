@@ -47,7 +47,8 @@ digits-read (suc k) n h =
     ∙ rw (digits-read k (n / 10) (omega (arith, h, pow-suc 10 k)), glyph-is (n % 10) (omega arith)) (omega arith)
 
 -- digits after those of n are the digits of the number that they make
-pub digits-after : (k n : ℕ) (ds : List ℕ) (m : ℕ) → m ≡ length ds + k → allDigits ds ≡ true → digits 10 m (valueFrom n ds) ≡ digits 10 k n ++ ds
+pub digits-after : (k n : ℕ) (ds : List ℕ) (m : ℕ) → m ≡ length ds + k → allDigits ds ≡ true →
+    digits 10 m (valueFrom n ds) ≡ digits 10 k n ++ ds
 unfolding allDigits valueFrom
 digits-after k n [] m same e = let all : m ≡ k = omega (arith, same) in rw (all, append-nil)
 digits-after k n (b ∷ rest) m same e =
@@ -60,7 +61,8 @@ digits-after k n (b ∷ rest) m same e =
     ∙ rw (front, last, shown, append-assoc)
 
 -- how large it is
-pub value-less : (j n : ℕ) (ds : List ℕ) (m : ℕ) → m ≡ length ds + j → allDigits ds ≡ true → n < 10 ^ j → valueFrom n ds < 10 ^ m
+pub value-less : (j n : ℕ) (ds : List ℕ) (m : ℕ) → m ≡ length ds + j → allDigits ds ≡ true → n < 10 ^ j →
+    valueFrom n ds < 10 ^ m
 unfolding allDigits valueFrom
 value-less j n [] m same e h = let all : m ≡ j = omega (arith, same) in rw all h
 value-less j n (b ∷ rest) m same e h =
@@ -131,7 +133,8 @@ digits-all zero n = refl
 digits-all (suc k) n = all-snoc (digits 10 k (n / 10)) (glyph (n % 10)) (digits-all k (n / 10)) (glyph-digit (n % 10) (omega arith))
 
 -- a digit more after a number that isn't 0
-decimal-snoc : (ds : List ℕ) (b : ℕ) → isDecimal ds ≡ true → 1 ≤ valueOf ds → isDigit b ≡ true → isDecimal (ds ++ b ∷ []) ≡ true
+decimal-snoc : (ds : List ℕ) (b : ℕ) → isDecimal ds ≡ true → 1 ≤ valueOf ds → isDigit b ≡ true →
+    isDecimal (ds ++ b ∷ []) ≡ true
 unfolding allDigits isDecimal valueFrom
 decimal-snoc [] b e one h = absurd (let z : _≡_ {A = ℕ} 0 1 = cc in omega arith)
 decimal-snoc (c ∷ []) b e one h =

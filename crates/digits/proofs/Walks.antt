@@ -20,7 +20,8 @@ module _ (word : List ℕ) (i : ℕ) where
   unfolding allDigits
   at-digit h = rw (add-one, drop-cons word i 0 h)
 
-  pub digit-on : i < length word → isDigit (getD word i 0) ≡ true → allDigits (drop i word) ≡ allDigits (drop (i + 1) word)
+  pub digit-on : i < length word → isDigit (getD word i 0) ≡ true →
+      allDigits (drop i word) ≡ allDigits (drop (i + 1) word)
   digit-on h e = at-digit h ∙ rw e
 
   pub digit-none : i < length word → isDigit (getD word i 0) ≡ false → allDigits (drop i word) ≡ false
@@ -31,7 +32,8 @@ module _ (word : List ℕ) (i : ℕ) where
   digits-end h = rw (drop-of-length-le word h)
 
   -- one of digits alone is a digit, and the rest are
-  pub of-digits : i < length word → allDigits (drop i word) ≡ true → (isDigit (getD word i 0) ≡ true) × (allDigits (drop (i + 1) word) ≡ true)
+  pub of-digits : i < length word → allDigits (drop i word) ≡ true →
+      (isDigit (getD word i 0) ≡ true) × (allDigits (drop (i + 1) word) ≡ true)
   of-digits h e = and-true (isDigit (getD word i 0)) (allDigits (drop (i + 1) word)) (sym (at-digit h) ∙ e)
 
 -- ---- capped numbers
@@ -57,7 +59,8 @@ capped-on n ds =
     ∙ sym (capped-large (valueFrom n ds) (omega (arith, e, value-grows n ds)))))
 
 module _ (word : List ℕ) (i n : ℕ) where
-  pub value-on : (m : ℕ) → i < length word → m ≡ capped (10 * n + (getD word i 0 - 48)) → capped (valueFrom n (drop i word)) ≡ capped (valueFrom m (drop (i + 1) word))
+  pub value-on : (m : ℕ) → i < length word → m ≡ capped (10 * n + (getD word i 0 - 48)) →
+      capped (valueFrom n (drop i word)) ≡ capped (valueFrom m (drop (i + 1) word))
   unfolding valueFrom
   value-on m h e = rw (add-one, drop-cons word i 0 h, e) (sym (capped-on (10 * n + (getD word i 0 - 48)) (drop (suc i) word)))
 

@@ -7,7 +7,8 @@ use Rattle.local.proofs.Opcodes.{NoneOf, from-none}
 use Rattle.dispatch.specs.Contract.{Others, Own}
 
 -- of an accepted card's opcodes, those from loadc to call but alloc, ..
-pub own : (op : ℕ) → Others op → op ≤ 40 → NoneOf (NoneOf (NoneOf (NoneOf (NoneOf Unit 0 1 op) 6 1 op) 24 3 op) 28 4 op) 34 7 op → Own op
+pub own : (op : ℕ) → Others op → op ≤ 40 →
+    NoneOf (NoneOf (NoneOf (NoneOf (NoneOf Unit 0 1 op) 6 1 op) 24 3 op) 28 4 op) 34 7 op → Own op
 own op others most h =
     let last = from-none _ 34 7 op h in
     let middle = from-none _ 28 4 op (last .0) in

@@ -27,7 +27,9 @@ use Rattle.machine.specs.declared.registers.Registers.{Registers}
 use Rattle.tables.specs.Idle.{Idle}
 
 -- turns of a running machine that began with m left have come to this, and so many at the front of the line don't live
-pub record Among (size : ℕ) (code : List ℕ) (n : ℕ) (words : List ℕ) (k : ℕ) (r : Registers) (m : ℕ) (store₀ : List ℤ) (tables₀ : List ℕ) (t₀ : ℕ) (c₀ : Context) (store : List ℤ) (tables : List ℕ) (t : ℕ) (c : Context) (left skip : ℕ) : Type 0 where
+pub record Among (size : ℕ) (code : List ℕ) (n : ℕ) (words : List ℕ) (k : ℕ) (r : Registers) (m : ℕ) (store₀ : List ℤ)
+    (tables₀ : List ℕ) (t₀ : ℕ) (c₀ : Context) (store : List ℤ) (tables : List ℕ) (t : ℕ) (c : Context)
+    (left skip : ℕ) : Type 0 where
   pub card : Carded code n
   pub unpacked : Unpacked code n words k
   pub small : size ≤ 32
@@ -39,8 +41,10 @@ pub record Among (size : ℕ) (code : List ℕ) (n : ℕ) (words : List ℕ) (k 
   pub store-long : length store ≡ length store₀
   pub tables-long : length tables ≡ length tables₀
 
-module _ {size : ℕ} {code : List ℕ} {n : ℕ} {words : List ℕ} {k : ℕ} {r : Registers} {m : ℕ} {store₀ : List ℤ} {tables₀ : List ℕ} {t₀ : ℕ} {c₀ : Context} where
-  pub among : Carded code n → Unpacked code n words k → size ≤ 32 → r .state ≡ running → Seated size store₀ tables₀ (inContext r t₀ c₀) →
+module _ {size : ℕ} {code : List ℕ} {n : ℕ} {words : List ℕ} {k : ℕ} {r : Registers} {m : ℕ} {store₀ : List ℤ}
+    {tables₀ : List ℕ} {t₀ : ℕ} {c₀ : Context} where
+  pub among : Carded code n → Unpacked code n words k → size ≤ 32 → r .state ≡ running →
+      Seated size store₀ tables₀ (inContext r t₀ c₀) →
       Among size code n words k r m store₀ tables₀ t₀ c₀ store₀ tables₀ t₀ c₀ m 0
   among card unpacked small runs seat =
       record {
@@ -55,7 +59,8 @@ module _ {size : ℕ} {code : List ℕ} {n : ℕ} {words : List ℕ} {k : ℕ} {
         tables-long = refl;
       }
 
-  module _ {store : List ℤ} {tables : List ℕ} {t : ℕ} {c : Context} {left skip : ℕ} (a : Among size code n words k r m store₀ tables₀ t₀ c₀ store tables t c left skip) where
+  module _ {store : List ℤ} {tables : List ℕ} {t : ℕ} {c : Context} {left skip : ℕ}
+      (a : Among size code n words k r m store₀ tables₀ t₀ c₀ store tables t c left skip) where
     somewhere : Under size code m store₀ tables₀ (a .seat .values) (inContext r t₀ c₀) store tables (a .seat .values) (inContext r t c) left
     somewhere = a .under (a .seat .values) (a .seat .sound)
 
@@ -67,11 +72,14 @@ module _ {size : ℕ} {code : List ℕ} {n : ℕ} {words : List ℕ} {k : ℕ} {
       pub works : Working size (inContext r t c) (length store) tables (a .seat .values)
       works = working code n (a .card) size store tables (a .seat .values) (inContext r t c) (somewhere .sound) (a .runs) (a .small) below
 
-      module _ (some : 1 ≤ left) (turning : Turning (instructionAt code (c .pc) .opcode)) (tables′ : List ℕ) (q : Registers) (same : length tables′ ≡ length tables) (acts : Acts size (instructionOf (instructionAt code (c .pc) .opcode) (pos 0)) store tables (inContext r t c) store tables′ q) where
+      module _ (some : 1 ≤ left) (turning : Turning (instructionAt code (c .pc) .opcode)) (tables′ : List ℕ)
+          (q : Registers) (same : length tables′ ≡ length tables)
+          (acts : Acts size (instructionOf (instructionAt code (c .pc) .opcode) (pos 0)) store tables (inContext r t c) store tables′ q) where
         abbrev i : Instruction
         i = instructionOf (instructionAt code (c .pc) .opcode) (pos 0)
 
-        does : (values : List ℤ) → stateAt size store tables′ values q ≡ executed size n (stateAt size store tables values (inContext r t c)) i .state
+        does : (values : List ℤ) → stateAt size store tables′ values q
+            ≡ executed size n (stateAt size store tables values (inContext r t c)) i .state
         does values = acts n values
 
         is : (values : List ℤ) → Carries size code store tables values (inContext r t c) store tables′ values q
@@ -81,12 +89,14 @@ module _ {size : ℕ} {code : List ℕ} {n : ℕ} {words : List ℕ} {k : ℕ} {
             ∙ at-pc code n (a .card) size (stateAt size store tables values (inContext r t c)) below
 
         -- it is a fault, ..
-        pub turn-faults : q .state ≡ faulted → (values : List ℤ) → Sound size (boxed store₀ tables₀ values (inContext r t₀ c₀)) →
+        pub turn-faults : q .state ≡ faulted → (values : List ℤ) →
+            Sound size (boxed store₀ tables₀ values (inContext r t₀ c₀)) →
             Under size code m store₀ tables₀ values (inContext r t₀ c₀) store tables′ values q left
         turn-faults wrong values h = one-fault (a .card) (a .under values h) some (a .runs) same (is values) wrong
 
         -- .. or it was carried out, ..
-        pub turn-done : q .state ≢ faulted → (values : List ℤ) → Sound size (boxed store₀ tables₀ values (inContext r t₀ c₀)) →
+        pub turn-done : q .state ≢ faulted → (values : List ℤ) →
+            Sound size (boxed store₀ tables₀ values (inContext r t₀ c₀)) →
             Under size code m store₀ tables₀ values (inContext r t₀ c₀) store tables′ values q (left - 1)
         turn-done fine values h = one-done (a .card) (a .under values h) some (a .runs) same (is values) fine
 
@@ -106,7 +116,8 @@ module _ {size : ℕ} {code : List ℕ} {n : ℕ} {words : List ℕ} {k : ℕ} {
           houses = record { tables = tables′; values = a .seat .values; r = r; runs = a .runs; sound = next (a .seat .values) (a .seat .sound) .sound }
 
           -- with a stretch of that thread behind it
-          pub among-more : {store′ : List ℤ} {c′ : Context} {rest skip′ : ℕ} → length store′ ≡ length store → Idle (tablesOf size tables) skip′ →
+          pub among-more : {store′ : List ℤ} {c′ : Context} {rest skip′ : ℕ} → length store′ ≡ length store →
+              Idle (tablesOf size tables) skip′ →
               Inside size words k (left - 1) store (q .thread) (contextOf q) store′ c′ rest →
               Among size code n words k r m store₀ tables₀ t₀ c₀ store′ tables′ (q .thread) c′ rest skip′
           among-more {skip′} long idle inside =
@@ -126,7 +137,9 @@ module _ {size : ℕ} {code : List ℕ} {n : ℕ} {words : List ℕ} {k : ℕ} {
               }
 
 -- turns that began with a stretch
-pub joined : {size : ℕ} {code : List ℕ} {n : ℕ} (card : Carded code n) {words : List ℕ} {k : ℕ} → Unpacked code n words k → {r : Registers} → r .state ≡ running → {m : ℕ} {store : List ℤ} {tables : List ℕ} {store₀ : List ℤ} {c₀ : Context} {left₀ : ℕ} →
+pub joined : {size : ℕ} {code : List ℕ} {n : ℕ} (card : Carded code n) {words : List ℕ} {k : ℕ} →
+    Unpacked code n words k → {r : Registers} → r .state ≡ running →
+    {m : ℕ} {store : List ℤ} {tables : List ℕ} {store₀ : List ℤ} {c₀ : Context} {left₀ : ℕ} →
     Inside size words k m store (r .thread) (contextOf r) store₀ c₀ left₀ → {store′ : List ℤ} {tables′ : List ℕ} {q : Registers} {rest : ℕ} →
     ((values : List ℤ) → Sound size (boxed store₀ tables values (inContext r (r .thread) c₀)) → Under size code left₀ store₀ tables values (inContext r (r .thread) c₀) store′ tables′ values q rest) →
     (values : List ℤ) → Sound size (boxed store tables values r) → Under size code m store tables values r store′ tables′ values q rest

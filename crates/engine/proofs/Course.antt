@@ -46,12 +46,14 @@ module _ (size : ℕ) (words : List ℕ) (start : State) (m : ℕ) where
   over-stopped s count c h = over s count c (run-stopped size words s (m - count) (ne-eqb _ _ h))
 
   -- one more instruction of a machine that runs
-  more : (s u : State) (count rest : ℕ) (c : Course size words start m s count) → m - count ≡ suc rest → s .regs .state ≡ running → u ≡ carried size words s .state →
+  more : (s u : State) (count rest : ℕ) (c : Course size words start m s count) → m - count ≡ suc rest →
+      s .regs .state ≡ running → u ≡ carried size words s .state →
       run size words start m ≡ joined (record { state = u; trace = c .trace ++ carried size words s .trace }) (run size words u rest)
   more s u count rest c left runs is = rw (c .rest, left, run-more size words s rest (eq-eqb _ _ runs), is, append-assoc)
 
   -- .. was carried out
-  pub counted : (s u : State) (count : ℕ) → Course size words start m s count → count < m → s .regs .state ≡ running → u ≡ carried size words s .state →
+  pub counted : (s u : State) (count : ℕ) → Course size words start m s count → count < m → s .regs .state ≡ running →
+      u ≡ carried size words s .state →
       1 ≡ length (carried size words s .trace) → Course size words start m u (count + 1)
   counted s u count c below runs is one =
       let left : m - count ≡ suc (m - (count + 1)) = omega arith in
@@ -63,7 +65,8 @@ module _ (size : ℕ) (words : List ℕ) (start : State) (m : ℕ) where
       }
 
   -- .. or is a fault, and the machine stops
-  pub faulted-at : (s u : State) (count : ℕ) → Course size words start m s count → count < m → s .regs .state ≡ running → u ≡ carried size words s .state →
+  pub faulted-at : (s u : State) (count : ℕ) → Course size words start m s count → count < m →
+      s .regs .state ≡ running → u ≡ carried size words s .state →
       0 ≡ length (carried size words s .trace) → u .regs .state ≢ running → Course size words start m u count
   faulted-at s u count c below runs is none stops =
       let left : m - count ≡ suc (m - (count + 1)) = omega arith in
@@ -76,7 +79,8 @@ module _ (size : ℕ) (words : List ℕ) (start : State) (m : ℕ) where
       }
 
   -- what is left has come further
-  pub further : (s u : State) (count more : ℕ) → Course size words start m s count → Course size words s (m - count) u more → Course size words start m u (count + more)
+  pub further : (s u : State) (count more : ℕ) → Course size words start m s count →
+      Course size words s (m - count) u more → Course size words start m u (count + more)
   further s u count more c d =
       let left : m - count - more ≡ m - (count + more) = omega arith in
       record {
@@ -86,12 +90,14 @@ module _ (size : ℕ) (words : List ℕ) (start : State) (m : ℕ) where
         rest = rw (c .rest, d .rest, left, append-assoc);
       }
 
-module _ (size : ℕ) (code : List ℕ) (n : ℕ) (card : Carded code n) (store : List ℤ) (tables : List ℕ) (values : List ℤ) (r : Registers) (h : Sound size (boxed store tables values r)) (runs : r .state ≡ running) where
+module _ (size : ℕ) (code : List ℕ) (n : ℕ) (card : Carded code n) (store : List ℤ) (tables : List ℕ) (values : List ℤ)
+    (r : Registers) (h : Sound size (boxed store tables values r)) (runs : r .state ≡ running) where
   before : Right size (stateAt size store tables values r) (bookFor size (boxed store tables values r))
   before = sound-held size (boxed store tables values r) h .right
 
   -- a box stays sound
-  pub stays-sound : (store′ : List ℤ) (tables′ : List ℕ) (values′ : List ℤ) (q : Registers) → length tables′ ≡ length tables →
+  pub stays-sound : (store′ : List ℤ) (tables′ : List ℕ) (values′ : List ℤ) (q : Registers) →
+      length tables′ ≡ length tables →
       Carries size code store tables values r store′ tables′ values′ q → Sound size (boxed store′ tables′ values′ q)
   stays-sound store′ tables′ values′ q same is =
       let book = bookFor size (boxed store tables values r) in
@@ -103,31 +109,38 @@ module _ (size : ℕ) (code : List ℕ) (n : ℕ) (card : Carded code n) (store 
       })
 
   -- the state tells whether an instruction was carried out
-  tells : (store′ : List ℤ) (tables′ : List ℕ) (values′ : List ℤ) (q : Registers) → Carries size code store tables values r store′ tables′ values′ q →
+  tells : (store′ : List ℤ) (tables′ : List ℕ) (values′ : List ℤ) (q : Registers) →
+      Carries size code store tables values r store′ tables′ values′ q →
       cond (eqb (q .state) faulted) 0 1 ≡ length (carried size (wordsOf code) (stateAt size store tables values r) .trace)
   tells store′ tables′ values′ q is =
       ap (λ (s : State). cond (eqb (s .regs .state) faulted) 0 1) is
       ∙ carried-count size (wordsOf code) (words-of code n card) (stateAt size store tables values r) (bookFor size (boxed store tables values r)) before (eq-eqb _ _ runs)
 
-  pub tells-fault : (store′ : List ℤ) (tables′ : List ℕ) (values′ : List ℤ) (q : Registers) → Carries size code store tables values r store′ tables′ values′ q → q .state ≡ faulted →
+  pub tells-fault : (store′ : List ℤ) (tables′ : List ℕ) (values′ : List ℤ) (q : Registers) →
+      Carries size code store tables values r store′ tables′ values′ q → q .state ≡ faulted →
       0 ≡ length (carried size (wordsOf code) (stateAt size store tables values r) .trace)
   tells-fault store′ tables′ values′ q is e = rw (eq-eqb _ _ e) at (tells store′ tables′ values′ q is)
 
-  pub tells-done : (store′ : List ℤ) (tables′ : List ℕ) (values′ : List ℤ) (q : Registers) → Carries size code store tables values r store′ tables′ values′ q → q .state ≢ faulted →
+  pub tells-done : (store′ : List ℤ) (tables′ : List ℕ) (values′ : List ℤ) (q : Registers) →
+      Carries size code store tables values r store′ tables′ values′ q → q .state ≢ faulted →
       1 ≡ length (carried size (wordsOf code) (stateAt size store tables values r) .trace)
   tells-done store′ tables′ values′ q is e = rw (ne-eqb _ _ e) at (tells store′ tables′ values′ q is)
 
 -- a run under way in lent slices
-module _ {size : ℕ} {code : List ℕ} {n : ℕ} (card : Carded code n) {m : ℕ} {store₀ : List ℤ} {tables₀ : List ℕ} {values₀ : List ℤ} {r₀ : Registers} where
+module _ {size : ℕ} {code : List ℕ} {n : ℕ} (card : Carded code n) {m : ℕ} {store₀ : List ℤ} {tables₀ : List ℕ}
+    {values₀ : List ℤ} {r₀ : Registers} where
   -- it begins
-  pub entered : Sound size (boxed store₀ tables₀ values₀ r₀) → Under size code m store₀ tables₀ values₀ r₀ store₀ tables₀ values₀ r₀ m
+  pub entered : Sound size (boxed store₀ tables₀ values₀ r₀) →
+      Under size code m store₀ tables₀ values₀ r₀ store₀ tables₀ values₀ r₀ m
   entered h =
       let none : m - m ≡ 0 = omega arith in
       record { within = omega arith; sound = h; course = rw none (begun size (wordsOf code) (stateAt size store₀ tables₀ values₀ r₀) m) }
 
-  module _ {store : List ℤ} {tables : List ℕ} {values : List ℤ} {r : Registers} {left : ℕ} (u : Under size code m store₀ tables₀ values₀ r₀ store tables values r left) where
+  module _ {store : List ℤ} {tables : List ℕ} {values : List ℤ} {r : Registers} {left : ℕ}
+      (u : Under size code m store₀ tables₀ values₀ r₀ store tables values r left) where
     -- it has come further
-    pub onward-from : {store′ : List ℤ} {tables′ : List ℕ} {values′ : List ℤ} {q : Registers} {rest : ℕ} → Under size code left store tables values r store′ tables′ values′ q rest →
+    pub onward-from : {store′ : List ℤ} {tables′ : List ℕ} {values′ : List ℤ} {q : Registers} {rest : ℕ} →
+        Under size code left store tables values r store′ tables′ values′ q rest →
         Under size code m store₀ tables₀ values₀ r₀ store′ tables′ values′ q rest
     onward-from {store′} {tables′} {values′} {q} {rest} v =
         let budget : left ≡ m - (m - left) = omega (arith, u .within) in
@@ -146,12 +159,15 @@ module _ {size : ℕ} {code : List ℕ} {n : ℕ} (card : Carded code n) {m : �
     lasts (inl none) = over-done size (wordsOf code) (stateAt size store₀ tables₀ values₀ r₀) m _ _ (u .course) (omega (arith, none))
     lasts (inr stops) = over-stopped size (wordsOf code) (stateAt size store₀ tables₀ values₀ r₀) m _ _ (u .course) stops
 
-    module _ (some : 1 ≤ left) (runs : r .state ≡ running) {store′ : List ℤ} {tables′ : List ℕ} {values′ : List ℤ} {q : Registers} (same : length tables′ ≡ length tables) (is : Carries size code store tables values r store′ tables′ values′ q) where
+    module _ (some : 1 ≤ left) (runs : r .state ≡ running) {store′ : List ℤ} {tables′ : List ℕ} {values′ : List ℤ}
+        {q : Registers} (same : length tables′ ≡ length tables)
+        (is : Carries size code store tables values r store′ tables′ values′ q) where
       sound : Sound size (boxed store′ tables′ values′ q)
       sound = stays-sound size code n card store tables values r (u .sound) runs store′ tables′ values′ q same is
 
       -- one more instruction is carried out, ..
-      pub one-done : q .state ≢ faulted → Under size code m store₀ tables₀ values₀ r₀ store′ tables′ values′ q (left - 1)
+      pub one-done : q .state ≢ faulted →
+          Under size code m store₀ tables₀ values₀ r₀ store′ tables′ values′ q (left - 1)
       one-done fine =
           let one = tells-done size code n card store tables values r (u .sound) runs store′ tables′ values′ q is fine in
           let next : m - left + 1 ≡ m - (left - 1) = omega (arith, u .within) in
@@ -172,7 +188,8 @@ module _ {size : ℕ} {code : List ℕ} {n : ℕ} (card : Carded code n) {m : �
           }
 
 -- a run under way, in lent slices that are as long as they were
-pub record Going (size : ℕ) (code : List ℕ) (m : ℕ) (store₀ : List ℤ) (tables₀ : List ℕ) (values₀ : List ℤ) (r₀ : Registers) (store : List ℤ) (tables : List ℕ) (values : List ℤ) (r : Registers) (left : ℕ) : Type 0 where
+pub record Going (size : ℕ) (code : List ℕ) (m : ℕ) (store₀ : List ℤ) (tables₀ : List ℕ) (values₀ : List ℤ)
+    (r₀ : Registers) (store : List ℤ) (tables : List ℕ) (values : List ℤ) (r : Registers) (left : ℕ) : Type 0 where
   pub under : Under size code m store₀ tables₀ values₀ r₀ store tables values r left
   pub store-long : length store ≡ length store₀
   pub tables-long : length tables ≡ length tables₀
@@ -183,7 +200,8 @@ abbrev pub ahead : ℕ → ℕ → ℕ
 ahead left state = left + cond (eqb state running) 1 0
 
 -- it falls where something was carried out, or the machine has stopped
-pub falls : (left rest state after : ℕ) → rest ≤ left → state ≡ running → (after ≡ running → rest < left) → ahead rest after < ahead left state
+pub falls : (left rest state after : ℕ) → rest ≤ left → state ≡ running → (after ≡ running → rest < left) →
+    ahead rest after < ahead left state
 falls left rest state after most runs went =
     rw (eq-eqb _ _ runs)
     (same-or-not after running (λ e. rw (eq-eqb _ _ e) (omega (arith, went e))) (λ e. rw (ne-eqb _ _ e) (omega (arith, most))))

@@ -27,7 +27,8 @@ module _ {size : ℕ} {words : List ℕ} {k m : ℕ} {store₀ : List ℤ} {t : 
   pub enter : Inside size words k m store₀ t c₀ store₀ c₀ m
   enter code n card unpacked tables values r runs h = entered card h
 
-  module _ {store : List ℤ} {c : Context} {left : ℕ} (inside : Inside size words k m store₀ t c₀ store c left) (load : Loaded words k) (house : Housed size store₀ t c₀) where
+  module _ {store : List ℤ} {c : Context} {left : ℕ} (inside : Inside size words k m store₀ t c₀ store c left)
+      (load : Loaded words k) (house : Housed size store₀ t c₀) where
     -- somewhere the run is under way
     pub somewhere : Under size (load .code) m store₀ (house .tables) (house .values) (inContext (house .r) t c₀) store (house .tables) (house .values) (inContext (house .r) t c) left
     somewhere = inside (load .code) (load .n) (load .card) (load .unpacked) (house .tables) (house .values) (house .r) (house .runs) (house .sound)
@@ -43,7 +44,9 @@ module _ {size : ℕ} {words : List ℕ} {k m : ℕ} {store₀ : List ℤ} {t : 
         let all : k ≡ load .n = load .unpacked .all (omega arith) in
         rw (load .unpacked .word (c .pc) below, all) (permitted (load .code) (load .n) (load .card) (c .pc) (omega (arith, all)) .0)
 
-  module _ {store : List ℤ} {c : Context} {left : ℕ} (inside : Inside size words k m store₀ t c₀ store c left) (below : c .pc < k) {store′ : List ℤ} {a : Attempt} (h : Ventures size k (getD words (c .pc) 0) store t (past c) store′ a) where
+  module _ {store : List ℤ} {c : Context} {left : ℕ} (inside : Inside size words k m store₀ t c₀ store c left)
+      (below : c .pc < k) {store′ : List ℤ} {a : Attempt}
+      (h : Ventures size k (getD words (c .pc) 0) store t (past c) store′ a) where
     -- the instruction was carried out
     pub one-more : 1 ≤ left → a .ok ≡ true → Inside size words k m store₀ t c₀ store′ (a .context) (left - 1)
     one-more some ok code n card unpacked tables values r runs start =

@@ -13,7 +13,8 @@ use Rattle.machine.proofs.Targets.{targetOf}
 use Rattle.machine.specs.Instructions.{instructionOf}
 
 -- an operand that its rule allows: alloc's is 0 to 127, ..
-pub count-fits : (op : ℕ) (last k : ℤ) → allows (ruleOf op) last k ≡ true → op ≡ 6 → (natAbs k ≤ 127) × (leZ (pos 0) k ≡ true)
+pub count-fits : (op : ℕ) (last k : ℤ) → allows (ruleOf op) last k ≡ true → op ≡ 6 →
+    (natAbs k ≤ 127) × (leZ (pos 0) k ≡ true)
 count-fits op last k e six = fits k (rw six at e)
   where
     fits : (k : ℤ) → isBetween (pos 0) (pos 127) k ≡ true → (natAbs k ≤ 127) × (leZ (pos 0) k ≡ true)

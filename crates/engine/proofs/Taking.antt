@@ -35,7 +35,8 @@ same-turn op k (inr (inl e)) = rw e
 same-turn op k (inr (inr e)) = rw e
 
 -- the front of the line stays idle
-pub stays-idle : (size n k op : ℕ) (s : State) → Turning op → lives (s .tables) (s .regs .thread) ≡ true → Idle (s .tables) k →
+pub stays-idle : (size n k op : ℕ) (s : State) → Turning op → lives (s .tables) (s .regs .thread) ≡ true →
+    Idle (s .tables) k →
     Idle (executed size n s (instructionOf op (pos 0)) .state .tables) k
 unfolding instructionOf
 stays-idle size n k op s (inl e) live h = rw e (idle-yield size n k s live h)
@@ -50,7 +51,8 @@ module _ (size n : ℕ) (s : State) where
   stopped-none : (live : Bool) → cond live stuck halted ≢ running
   stopped-none live e = cases live (λ t. let z : stuck ≡ running = rw t at e in omega arith) (λ t. let z : halted ≡ running = rw t at e in omega arith)
 
-  only-next : (u : State) → u .regs ≡ inContext (s .regs) (u .regs .thread) (contextOf (u .regs)) → Only (s .regs) (next size u .regs)
+  only-next : (u : State) → u .regs ≡ inContext (s .regs) (u .regs .thread) (contextOf (u .regs)) →
+      Only (s .regs) (next size u .regs)
   unfolding next
   only-next u h = by-first (first (u .tables) ready)
     where
@@ -58,7 +60,8 @@ module _ (size n : ℕ) (s : State) where
       by-first (Waiter t) runs = rw h
       by-first Nobody runs = absurd (stopped-none (anyLive size (u .tables)) runs)
 
-  only-blocked : (u : State) (place : ℕ) → u .regs ≡ inContext (s .regs) (u .regs .thread) (contextOf (u .regs)) → Only (s .regs) (blocked size u place .regs)
+  only-blocked : (u : State) (place : ℕ) → u .regs ≡ inContext (s .regs) (u .regs .thread) (contextOf (u .regs)) →
+      Only (s .regs) (blocked size u place .regs)
   unfolding left
   only-blocked u place h = only-next (left size u place) (rw h)
 
@@ -69,7 +72,8 @@ module _ (size n : ℕ) (s : State) where
     keeps-fault : (o : Outcome) (k : ℕ) → o ≡ Outcome.fault k → Keeps o
     keeps-fault o k e runs = absurd (let z : faulted ≡ running = rw e at runs in omega arith)
 
-    keeps-mutex : (f : ℕ → Outcome) → ((m : ℕ) → Keeps (f m)) → Keeps (needs 1 (s .regs .cells) (aMutex size n (onward s) (top size (onward s)) f))
+    keeps-mutex : (f : ℕ → Outcome) → ((m : ℕ) → Keeps (f m)) →
+        Keeps (needs 1 (s .regs .cells) (aMutex size n (onward s) (top size (onward s)) f))
     unfolding needs within
     keeps-mutex f d = cases (ltb (s .regs .cells) 1) (λ e. rw e (λ runs. absurd (let z : faulted ≡ running = runs in omega arith))) (λ e. rw e (by-value (top size (onward s))))
       where

@@ -35,7 +35,8 @@ module _ (code : List ℕ) (n : ℕ) (card : Carded code n) where
   so-many = count code n (card .long)
 
   -- 20: "PC ≥ n"
-  pub past-end : (size : ℕ) (s : State) → n ≤ s .regs .pc → withRegs s (stopped (s .regs) 20) ≡ carried size (wordsOf code) s .state
+  pub past-end : (size : ℕ) (s : State) → n ≤ s .regs .pc →
+      withRegs s (stopped (s .regs) 20) ≡ carried size (wordsOf code) s .state
   unfolding carried
   past-end size s h = rw (so-many, le-ltb _ _ h)
 
@@ -49,7 +50,8 @@ module _ (code : List ℕ) (n : ℕ) (card : Carded code n) where
       rw (so-many, lt-ltb _ _ h, w .is)
 
   -- a sound box whose machine runs has all that an instruction may rely on
-  pub working : (size : ℕ) (store : List ℤ) (tables : List ℕ) (values : List ℤ) (r : Registers) → Sound size (boxed store tables values r) → r .state ≡ 1 →
+  pub working : (size : ℕ) (store : List ℤ) (tables : List ℕ) (values : List ℤ) (r : Registers) →
+      Sound size (boxed store tables values r) → r .state ≡ 1 →
       size ≤ 32 → r .pc < n → Working size r (length store) tables values
   working size store tables values r h runs small below =
       let held = sound-held size (boxed store tables values r) h in
@@ -97,7 +99,8 @@ module _ (code : List ℕ) (n : ℕ) (card : Carded code n) where
       )
 
 -- the thread that runs lives
-pub runner-lives : (size : ℕ) (store : List ℤ) (tables : List ℕ) (values : List ℤ) (r : Registers) → Sound size (boxed store tables values r) → r .state ≡ 1 →
+pub runner-lives : (size : ℕ) (store : List ℤ) (tables : List ℕ) (values : List ℤ) (r : Registers) →
+    Sound size (boxed store tables values r) → r .state ≡ 1 →
     lives (tablesOf size tables) (r .thread) ≡ true
 runner-lives size store tables values r h runs =
     let held = sound-held size (boxed store tables values r) h in

@@ -32,19 +32,22 @@ use Rattle.importer.proofs.Words.{address-back, line-is, operand-back, 
 abbrev Written : List (List ℕ) → Item → Type 0
 Written words item = words ≡ nameOf (item .opcode) ∷ cond (hasOperand (ruleOf (item .opcode))) (signed (item .operand) ∷ []) []
 
-operands-back : (others : List (List ℕ)) (item : Item) → inBits (item .operand) ≡ true → Operands others item → others ≡ cond (hasOperand (ruleOf (item .opcode))) (signed (item .operand) ∷ []) []
+operands-back : (others : List (List ℕ)) (item : Item) → inBits (item .operand) ≡ true → Operands others item →
+    others ≡ cond (hasOperand (ruleOf (item .opcode))) (signed (item .operand) ∷ []) []
 operands-back [] item fits h = rw h
 operands-back (k ∷ []) item fits h = rw (h .0, operand-back k (item .operand) (h .1) (told (item .operand) fits))
 operands-back (k ∷ l ∷ more) item fits h = absurd h
 
-item-back : (words : List (List ℕ)) (item : Item) → inBits (item .operand) ≡ true → itemRead words ≡ some item → Written words item
+item-back : (words : List (List ℕ)) (item : Item) → inBits (item .operand) ≡ true → itemRead words ≡ some item →
+    Written words item
 item-back words item fits e =
     let s = spelt words item e in
     s .are ∙ rw (named-is (s .name) (item .opcode) (s .known) .1) (ap (λ (rest : List (List ℕ)). s .name ∷ rest) (operands-back (s .others) item fits (s .follow)))
 
 -- ---- a line
 
-line-back : (l : List ℕ) (index : ℕ) (item : Item) → item .opcode < 41 → inBits (item .operand) ≡ true → lineRead (split 32 l) ≡ right index item → l ++ 10 ∷ [] ≡ instructionLine index (itemWord item)
+line-back : (l : List ℕ) (index : ℕ) (item : Item) → item .opcode < 41 → inBits (item .operand) ≡ true →
+    lineRead (split 32 l) ≡ right index item → l ++ 10 ∷ [] ≡ instructionLine index (itemWord item)
 line-back l index item h fits e =
     let s = spells (split 32 l) index item e in
     let w = word item h fits in
@@ -61,21 +64,26 @@ pub record Allowed (last : ℤ) (index : ℕ) (item : Item) (items : List Item) 
   pub fits : inBits (item .operand) ≡ true
   pub others : firstAgainst last (suc index) items ≡ none
 
-pub allowed : (last : ℤ) (index : ℕ) (item : Item) (items : List Item) → firstAgainst last index (item ∷ items) ≡ none → Allowed last index item items
+pub allowed : (last : ℤ) (index : ℕ) (item : Item) (items : List Item) → firstAgainst last index (item ∷ items) ≡ none →
+    Allowed last index item items
 unfolding firstAgainst
 allowed last index item items e = by (inBits (item .operand)) refl (allows (ruleOf (item .opcode)) last (item .operand)) e
   where
-    by : (t : Bool) → inBits (item .operand) ≡ t → (u : Bool) → cond (t && u) (firstAgainst last (suc index) items) (some index) ≡ none → Allowed last index item items
+    by : (t : Bool) → inBits (item .operand) ≡ t → (u : Bool) →
+        cond (t && u) (firstAgainst last (suc index) items) (some index) ≡ none → Allowed last index item items
     by true t true q = record { fits = t; others = q }
     by true t false q = impossible cc
     by false t u q = impossible cc
 
-last-back : (last : List ℕ) (index place : ℕ) (items : List Item) → lastRead last place ≡ good items → last ≡ instructionLines index (wordsOf items)
+last-back : (last : List ℕ) (index place : ℕ) (items : List Item) → lastRead last place ≡ good items →
+    last ≡ instructionLines index (wordsOf items)
 unfolding instructionLines wordsOf
 last-back [] index place items e = let same : [] ≡ items = cc in rw (← same)
 last-back (b ∷ rest) index place items e = impossible cc
 
-pub lines-back : (last : ℤ) (ls : List (List ℕ)) (index place : ℕ) (items : List Item) → AllNamed items → firstAgainst last index items ≡ none → linesRead index place ls ≡ good items → join 10 ls ≡ instructionLines index (wordsOf items)
+pub lines-back : (last : ℤ) (ls : List (List ℕ)) (index place : ℕ) (items : List Item) → AllNamed items →
+    firstAgainst last index items ≡ none → linesRead index place ls ≡ good items →
+    join 10 ls ≡ instructionLines index (wordsOf items)
 unfolding instructionLines join linesRead wordsOf
 lines-back last [] index place items named rules e = let same : [] ≡ items = cc in rw (← same)
 lines-back last (l ∷ []) index place items named rules e = last-back l index place items e
@@ -101,7 +109,8 @@ cells-back l g h e = by (split 32 l) refl e
     by (first ∷ []) p q = impossible cc
     by (first ∷ number ∷ []) p q = right-header (same first cellsWord && isDecimal number) refl q
       where
-        right-header : (t : Bool) → (same first cellsWord && isDecimal number) ≡ t → cond t (some (valueOf number)) none ≡ some g → l ++ 10 ∷ [] ≡ headerLine g
+        right-header : (t : Bool) → (same first cellsWord && isDecimal number) ≡ t →
+            cond t (some (valueOf number)) none ≡ some g → l ++ 10 ∷ [] ≡ headerLine g
         right-header true t r =
             let both = and-true (same first cellsWord) (isDecimal number) t in
             let value : valueOf number ≡ g = cc in
@@ -126,7 +135,8 @@ says g items [] e = impossible cc
 says g items (l ∷ []) e = impossible cc
 says g items (l ∷ m ∷ more) e = by (headerRead (split 32 l)) refl (linesRead 0 (suc (length l)) (m ∷ more)) refl e
   where
-    by : (o : Option ℕ) → headerRead (split 32 l) ≡ o → (r : Lines) → linesRead 0 (suc (length l)) (m ∷ more) ≡ r → headed o r ≡ card g items → Says g items (l ∷ m ∷ more)
+    by : (o : Option ℕ) → headerRead (split 32 l) ≡ o → (r : Lines) → linesRead 0 (suc (length l)) (m ∷ more) ≡ r →
+        headed o r ≡ card g items → Says g items (l ∷ m ∷ more)
     by none p r t q = impossible cc
     by (some cells) p (bad number place) t q = impossible cc
     by (some cells) p (good found) t q =
@@ -134,7 +144,8 @@ says g items (l ∷ m ∷ more) e = by (headerRead (split 32 l)) refl (linesRead
         let list : found ≡ items = cc in
         record { first = l; next = m; others = more; are = refl; cells = p ∙ ap some number; rest = t ∙ ap good list }
 
-pub text-back : (last : ℤ) (text : List ℕ) (g : ℕ) (items : List Item) → g < 10 ^ 20 → AllNamed items → firstAgainst last 0 items ≡ none → said text ≡ card g items → text ≡ textOf g (wordsOf items)
+pub text-back : (last : ℤ) (text : List ℕ) (g : ℕ) (items : List Item) → g < 10 ^ 20 → AllNamed items →
+    firstAgainst last 0 items ≡ none → said text ≡ card g items → text ≡ textOf g (wordsOf items)
 unfolding join
 text-back last text g items h named rules e =
     let s = says g items (split 10 text) e in

@@ -38,19 +38,25 @@ use Rattle.importer.proofs.Spelling.{cut-at}
 
 -- ---- the writer's answer
 
-pub written : (answer : Writing) (size : ℕ) → answer ≡ writing.Written size → gives size ≡ renumbered (writes.told answer)
+pub written : (answer : Writing) (size : ℕ) → answer ≡ writing.Written size →
+    gives size ≡ renumbered (writes.told answer)
 written answer size e = rw e
 
-pub full : (answer : Writing) (number place : ℕ) → answer ≡ writing.Refused number place → number ≡ 8 → refuses 43 0 ≡ renumbered (writes.told answer)
+pub full : (answer : Writing) (number place : ℕ) → answer ≡ writing.Refused number place → number ≡ 8 →
+    refuses 43 0 ≡ renumbered (writes.told answer)
 full answer number place e is = rw (e, eq-eqb number 8 is)
 
-pub same-number : (answer : Writing) (number place : ℕ) → answer ≡ writing.Refused number place → number ≢ 8 → refuses number place ≡ renumbered (writes.told answer)
+pub same-number : (answer : Writing) (number place : ℕ) → answer ≡ writing.Refused number place → number ≢ 8 →
+    refuses number place ≡ renumbered (writes.told answer)
 same-number answer number place e other = rw (e, ne-eqb number 8 other)
 
-pub too-many : (cells count : ℕ) (words before : List ℕ) → 4096 < count → WroteCard cells count words before (Refused 3 5) before
+pub too-many : (cells count : ℕ) (words before : List ℕ) → 4096 < count →
+    WroteCard cells count words before (Refused 3 5) before
 too-many cells count words before h = let over = lt-ltb 4096 count h in record { answered = rw over; left = rw over }
 
-pub wrote-card : (cells count : ℕ) (words before : List ℕ) (w : Writing) (answer : Importing) (after : List ℕ) → count ≤ 4096 → Wrote cells (take count words) before w after → told answer ≡ renumbered (writes.told w) → WroteCard cells count words before answer after
+pub wrote-card : (cells count : ℕ) (words before : List ℕ) (w : Writing) (answer : Importing) (after : List ℕ) →
+    count ≤ 4096 → Wrote cells (take count words) before w after → told answer ≡ renumbered (writes.told w) →
+    WroteCard cells count words before answer after
 wrote-card cells count words before w answer after h wrote e =
     let within = le-ltb 4096 count h in
     record { answered = rw within (e ∙ ap renumbered (wrote .answered)); left = rw within (wrote .left) }
@@ -80,7 +86,8 @@ module _ (g : ℕ) (items : List Item) (buffer : List ℕ) where
     pub answers : renumbered w ≡ answer
     pub leaves : bufferOf w (capped g) (codedItems items) buffer ≡ imported answer (card g items) buffer
 
-  by-room : outOfRange g ≡ false → firstAgainst (lastOf n) 0 items ≡ none → Same (roomy (length buffer) n) (cond (ltb (length buffer) (imageSize n)) (refuses 43 0) (gives (imageSize n)))
+  by-room : outOfRange g ≡ false → firstAgainst (lastOf n) 0 items ≡ none →
+      Same (roomy (length buffer) n) (cond (ltb (length buffer) (imageSize n)) (refuses 43 0) (gives (imageSize n)))
   unfolding imageSaid n
   by-room range rules =
       cases (ltb (length buffer) (imageSize n)) (λ t. rw t (record { answers = refl; leaves = refl }))
@@ -102,7 +109,8 @@ module _ (g : ℕ) (items : List Item) (buffer : List ℕ) where
   same-card h = rw (capped-out g, length-coded items, first-coded (lastOf (length items)) items 0 h) (by-range (outOfRange g || outOfRange (length items)) refl)
 
 -- the words that were stored are those of the instructions
-words-taken : (items : List Item) (first words : List ℕ) → length items ≤ length first → words ≡ sets first 0 (codedItems items) → take (length items) words ≡ codedItems items
+words-taken : (items : List Item) (first words : List ℕ) → length items ≤ length first →
+    words ≡ sets first 0 (codedItems items) → take (length items) words ≡ codedItems items
 words-taken items first words h e =
     let size : length (codedItems items) ≡ length items = length-coded items in
     rw (e, ← size, sets-eq (codedItems items) first 0 (omega (arith, h, size))) (take-append-seam (codedItems items) _)
@@ -115,7 +123,8 @@ over-said : (g : ℕ) (items : List Item) (room : ℕ) → 4096 < length items �
 unfolding answerOf
 over-said g items room over = rw (too-long (length items) over (outOfRange g))
 
-card-said : (g count : ℕ) (items : List Item) (first words before after : List ℕ) (answer : Importing) → 4096 ≤ length first → AllNamed items → count ≡ length items → words ≡ sets first 0 (codedItems items) →
+card-said : (g count : ℕ) (items : List Item) (first words before after : List ℕ) (answer : Importing) →
+    4096 ≤ length first → AllNamed items → count ≡ length items → words ≡ sets first 0 (codedItems items) →
     WroteCard (capped g) count words before answer after → Leaves (card g items) before answer after
 card-said g count items first words before after answer room named many stores wrote =
     less-or-not 4096 (length items)
@@ -137,7 +146,8 @@ pub record Header (text : List ℕ) (cells next : ℕ) : Type 0 where
   pub says : said text ≡ withCells g (linesRead 0 next (split 10 (drop next text)))
   pub inside : next ≤ length text
 
-pub text-cut : (l r : List ℕ) → textRead (l ∷ split 10 r) ≡ headed (headerRead (split 32 l)) (linesRead 0 (suc (length l)) (split 10 r))
+pub text-cut : (l r : List ℕ) →
+    textRead (l ∷ split 10 r) ≡ headed (headerRead (split 32 l)) (linesRead 0 (suc (length l)) (split 10 r))
 unfolding textRead
 text-cut l r = let p = parts 10 r in rw (p .are)
 
@@ -149,7 +159,8 @@ module _ (text : List ℕ) where
   first = take end text
 
   -- what the first line says of all
-  first-said : end < length text → said text ≡ headed (headerRead (split 32 first)) (linesRead 0 (end + 1) (split 10 (drop (end + 1) text)))
+  first-said : end < length text →
+      said text ≡ headed (headerRead (split 32 first)) (linesRead 0 (end + 1) (split 10 (drop (end + 1) text)))
   unfolding end first
   first-said h =
       ap textRead (cut-at 10 text end (omega arith) h)
@@ -164,7 +175,8 @@ module _ (text : List ℕ) where
   unfolding end
   unended h = whole 10 text h
 
-  by-cells : (cells next : ℕ) (o : Option ℕ) → headerRead (split 32 first) ≡ o → end < length text → withLine (codedCells o) (end + 1) ≡ header.Cells cells next → Header text cells next
+  by-cells : (cells next : ℕ) (o : Option ℕ) → headerRead (split 32 first) ≡ o → end < length text →
+      withLine (codedCells o) (end + 1) ≡ header.Cells cells next → Header text cells next
   unfolding end first
   by-cells cells next none e h q = impossible cc
   by-cells cells next (some g) e h q =
@@ -183,7 +195,8 @@ module _ (text : List ℕ) where
       let never : header.Wrong ≡ header.Cells cells next = sym (ap codedHeader (unended h)) ∙ e in
       impossible cc)
 
-  by-none : (o : Option ℕ) → headerRead (split 32 first) ≡ o → end < length text → withLine (codedCells o) (end + 1) ≡ header.Wrong → said text ≡ refused 40 0
+  by-none : (o : Option ℕ) → headerRead (split 32 first) ≡ o → end < length text →
+      withLine (codedCells o) (end + 1) ≡ header.Wrong → said text ≡ refused 40 0
   by-none none e h q = first-said h ∙ ap (λ (o : Option ℕ). headed o (linesRead 0 (end + 1) (split 10 (drop (end + 1) text)))) e
   by-none (some g) e h q = impossible cc
 
@@ -194,18 +207,22 @@ module _ (text : List ℕ) where
 
 -- ---- the call
 
-refusal : (text before : List ℕ) (number place : ℕ) → said text ≡ refused number place → Imports text before (Refused number place) before
+refusal : (text before : List ℕ) (number place : ℕ) → said text ≡ refused number place →
+    Imports text before (Refused number place) before
 unfolding answerOf
 refusal text before number place e = rw e (record { answered = refl; left = refl })
 
-pub wrong-header : (text before : List ℕ) → codedHeader (split 10 text) ≡ header.Wrong → Imports text before (Refused 40 0) before
+pub wrong-header : (text before : List ℕ) → codedHeader (split 10 text) ≡ header.Wrong →
+    Imports text before (Refused 40 0) before
 wrong-header text before e = refusal text before 40 0 (no-header text e)
 
 module _ (text : List ℕ) (cells next : ℕ) (h : codedHeader (split 10 text) ≡ header.Cells cells next) where
   pub starts-inside : next ≤ length text
   starts-inside = header-of text cells next h .inside
 
-  pub wrong-line : (before : List ℕ) (number place : ℕ) (read : Lines) → read ≡ linesRead 0 next (split 10 (drop next text)) → codedLines 0 read ≡ lines.Bad number place → Imports text before (Refused number place) before
+  pub wrong-line : (before : List ℕ) (number place : ℕ) (read : Lines) →
+      read ≡ linesRead 0 next (split 10 (drop next text)) → codedLines 0 read ≡ lines.Bad number place →
+      Imports text before (Refused number place) before
   wrong-line before number place (good items) is e = impossible cc
   wrong-line before number place (bad n p) is e =
       let one : n ≡ number = cc in
@@ -213,7 +230,8 @@ module _ (text : List ℕ) (cells next : ℕ) (h : codedHeader (split 10 text) �
       let d = header-of text cells next h in
       refusal text before number place (d .says ∙ ap (withCells (d .g)) (sym is) ∙ rw (one, two))
 
-  pub all-right : (count : ℕ) (room words before after : List ℕ) (answer : Importing) (read : Lines) → read ≡ linesRead 0 next (split 10 (drop next text)) → codedLines 0 read ≡ lines.Count count → 4096 ≤ length room →
+  pub all-right : (count : ℕ) (room words before after : List ℕ) (answer : Importing) (read : Lines) →
+      read ≡ linesRead 0 next (split 10 (drop next text)) → codedLines 0 read ≡ lines.Count count → 4096 ≤ length room →
       Stores read room words → WroteCard cells count words before answer after → Imports text before answer after
   all-right count room words before after answer (bad n p) is e long s wrote = impossible cc
   all-right count room words before after answer (good items) is e long s wrote =

@@ -24,17 +24,21 @@ use Rattle.importer.proofs.Spelling.{cut-at}
 
 -- ---- a line that is followed by a line feed
 
-pub next-cut : (index at : ℕ) (l r : List ℕ) → nextRead index at (l ∷ split 10 r) ≡ withNext (codedLine (lineRead (split 32 l)) index) (at + suc (length l))
+pub next-cut : (index at : ℕ) (l r : List ℕ) →
+    nextRead index at (l ∷ split 10 r) ≡ withNext (codedLine (lineRead (split 32 l)) index) (at + suc (length l))
 next-cut index at l r = rw (parts 10 r .are)
 
-pub lines-cut : (index at : ℕ) (l r : List ℕ) → linesRead index at (l ∷ split 10 r) ≡ judged (lineRead (split 32 l)) index at (linesRead (suc index) (at + suc (length l)) (split 10 r))
+pub lines-cut : (index at : ℕ) (l r : List ℕ) →
+    linesRead index at (l ∷ split 10 r)
+    ≡ judged (lineRead (split 32 l)) index at (linesRead (suc index) (at + suc (length l)) (split 10 r))
 unfolding linesRead
 lines-cut index at l r = let p = parts 10 r in rw (p .are)
 
 -- ---- the text from `at` on, cut at the next line feed, which lies at `end`
 
 module _ (text : List ℕ) (at end : ℕ) (found : end ≡ at + length (upTo 10 (drop at text))) where
-  pub line-cut : end < length text → at ≤ end → split 10 (drop at text) ≡ take (end - at) (drop at text) ∷ split 10 (drop (end + 1) text)
+  pub line-cut : end < length text → at ≤ end →
+      split 10 (drop at text) ≡ take (end - at) (drop at text) ∷ split 10 (drop (end + 1) text)
   line-cut h k =
       let size : end - at ≡ length (upTo 10 (drop at text)) = omega (arith, found) in
       let past : at + suc (end - at) ≡ end + 1 = omega (arith, k) in
@@ -48,7 +52,9 @@ module _ (text : List ℕ) (at end : ℕ) (found : end ≡ at + length (upTo 10 
   line-size h k = length-take-le (end - at) (drop at text) (omega (arith, h, k, length-drop at text))
 
   -- what was read of that line
-  pub next-at : (index : ℕ) → end < length text → (coded : CodedLine) → codedLine (lineRead (split 32 (take (end - at) (drop at text)))) index ≡ coded → nextRead index at (split 10 (drop at text)) ≡ withNext coded (end + 1)
+  pub next-at : (index : ℕ) → end < length text → (coded : CodedLine) →
+      codedLine (lineRead (split 32 (take (end - at) (drop at text)))) index ≡ coded →
+      nextRead index at (split 10 (drop at text)) ≡ withNext coded (end + 1)
   next-at index h coded e =
       let here : at ≤ end = omega (arith, found) in
       let past : at + suc (end - at) ≡ end + 1 = omega (arith, here) in
@@ -57,7 +63,8 @@ module _ (text : List ℕ) (at end : ℕ) (found : end ≡ at + length (upTo 10 
       ∙ rw (line-size (omega (arith, h)) here, past, e)
 
 -- the same of the first line
-pub header-at : (text : List ℕ) (end : ℕ) → end ≡ 0 + length (upTo 10 text) → end < length text → (coded : Decimal) → codedCells (headerRead (split 32 (take end text))) ≡ coded → codedHeader (split 10 text) ≡ withLine coded (end + 1)
+pub header-at : (text : List ℕ) (end : ℕ) → end ≡ 0 + length (upTo 10 text) → end < length text → (coded : Decimal) →
+    codedCells (headerRead (split 32 (take end text))) ≡ coded → codedHeader (split 10 text) ≡ withLine coded (end + 1)
 header-at text end found h coded e =
     let p = parts 10 (drop (end + 1) text) in
     ap codedHeader (cut-at 10 text end found h)
@@ -70,11 +77,13 @@ last-bad [] at h = absurd (omega (arith, h))
 last-bad (b ∷ rest) at h = refl
 
 module _ (index at : ℕ) (rest : Lines) where
-  judged-bad : (l : Line) (next number : ℕ) → withNext (codedLine l index) next ≡ following.Bad number → judged l index at rest ≡ bad number at
+  judged-bad : (l : Line) (next number : ℕ) → withNext (codedLine l index) next ≡ following.Bad number →
+      judged l index at rest ≡ bad number at
   judged-bad wrong next number e = let same : 41 ≡ number = cc in rw (← same)
   judged-bad (right address item) next number e = by (eqb address index) e
     where
-      by : (t : Bool) → withNext (cond t (line.Word (coded item)) (line.Bad 42)) next ≡ following.Bad number → cond t (before item rest) (bad 42 at) ≡ bad number at
+      by : (t : Bool) → withNext (cond t (line.Word (coded item)) (line.Bad 42)) next ≡ following.Bad number →
+          cond t (before item rest) (bad 42 at) ≡ bad number at
       by true q = impossible cc
       by false q = let same : 42 ≡ number = cc in rw (← same)
 
@@ -83,19 +92,24 @@ module _ (index at : ℕ) (rest : Lines) where
     pub is : coded item ≡ word
     pub first : judged l index at rest ≡ before item rest
 
-  judged-good : (l : Line) (next word after : ℕ) → withNext (codedLine l index) next ≡ following.Line word after → Judged l word
+  judged-good : (l : Line) (next word after : ℕ) → withNext (codedLine l index) next ≡ following.Line word after →
+      Judged l word
   judged-good wrong next word after e = impossible cc
   judged-good (right address item) next word after e = by (eqb address index) refl e
     where
-      by : (t : Bool) → eqb address index ≡ t → withNext (cond t (line.Word (coded item)) (line.Bad 42)) next ≡ following.Line word after → Judged (right address item) word
+      by : (t : Bool) → eqb address index ≡ t →
+          withNext (cond t (line.Word (coded item)) (line.Bad 42)) next ≡ following.Line word after →
+          Judged (right address item) word
       by true t q = record { item = item; is = cc; first = rw t }
       by false t q = impossible cc
 
-next-is : (l : Line) (index next word after : ℕ) → withNext (codedLine l index) next ≡ following.Line word after → next ≡ after
+next-is : (l : Line) (index next word after : ℕ) → withNext (codedLine l index) next ≡ following.Line word after →
+    next ≡ after
 next-is wrong index next word after e = impossible cc
 next-is (right address item) index next word after e = by (eqb address index) e
   where
-    by : (t : Bool) → withNext (cond t (line.Word (coded item)) (line.Bad 42)) next ≡ following.Line word after → next ≡ after
+    by : (t : Bool) → withNext (cond t (line.Word (coded item)) (line.Bad 42)) next ≡ following.Line word after →
+        next ≡ after
     by true q = cc
     by false q = impossible cc
 
@@ -103,7 +117,8 @@ next-is (right address item) index next word after e = by (eqb address index) e
 pub record Step (text : List ℕ) (index at word next : ℕ) : Type 0 where
   pub item : Item
   pub is : coded item ≡ word
-  pub first : linesRead index at (split 10 (drop at text)) ≡ before item (linesRead (index + 1) next (split 10 (drop next text)))
+  pub first : linesRead index at (split 10 (drop at text))
+      ≡ before item (linesRead (index + 1) next (split 10 (drop next text)))
   pub further : at < next
   pub inside : next ≤ length text
 
@@ -127,7 +142,9 @@ module _ (text : List ℕ) (index at : ℕ) (h : at < length text) where
       ∙ lines-cut index at (take (end - at) (drop at text)) (drop (end + 1) text)
       ∙ rw (size, past)
 
-  next-here : end < length text → nextRead index at (split 10 (drop at text)) ≡ withNext (codedLine (lineRead (split 32 (take (end - at) (drop at text)))) index) (end + 1)
+  next-here : end < length text →
+      nextRead index at (split 10 (drop at text))
+      ≡ withNext (codedLine (lineRead (split 32 (take (end - at) (drop at text)))) index) (end + 1)
   unfolding end
   next-here less = next-at text at end refl index less _ refl
 
@@ -145,7 +162,8 @@ module _ (text : List ℕ) (index at : ℕ) (h : at < length text) where
   unended most = line-whole text at end refl (omega (arith, most, up-to (drop at text), length-drop at text, h))
 
   -- a line that isn't right
-  pub stops : (number : ℕ) → nextRead index at (split 10 (drop at text)) ≡ following.Bad number → linesRead index at (split 10 (drop at text)) ≡ bad number at
+  pub stops : (number : ℕ) → nextRead index at (split 10 (drop at text)) ≡ following.Bad number →
+      linesRead index at (split 10 (drop at text)) ≡ bad number at
   unfolding from linesRead
   stops number e =
       less-or-not end (length text)
@@ -157,7 +175,8 @@ module _ (text : List ℕ) (index at : ℕ) (h : at < length text) where
       ap (linesRead index at) alone ∙ last-bad (drop at text) at (omega (arith, h, length-drop at text)) ∙ rw (← same))
 
   -- a line that is
-  pub goes-on : (word next : ℕ) → nextRead index at (split 10 (drop at text)) ≡ following.Line word next → Step text index at word next
+  pub goes-on : (word next : ℕ) → nextRead index at (split 10 (drop at text)) ≡ following.Line word next →
+      Step text index at word next
   unfolding end from rest
   goes-on word next e =
       less-or-not end (length text)
@@ -186,12 +205,14 @@ count-on : (index : ℕ) (item : Item) (rest : Lines) → codedLines index (befo
 count-on index item (good items) = ap lines.Count (omega arith)
 count-on index item (bad number place) = refl
 
-store-on : (index word : ℕ) (item : Item) (rest : Lines) (words : List ℕ) → coded item ≡ word → stored index (before item rest) words ≡ stored (index + 1) rest (set words index word)
+store-on : (index word : ℕ) (item : Item) (rest : Lines) (words : List ℕ) → coded item ≡ word →
+    stored index (before item rest) words ≡ stored (index + 1) rest (set words index word)
 unfolding codedItems
 store-on index word item (good items) words is = rw (add-one, is)
 store-on index word item (bad number place) words is = refl
 
-none-stored : (read : Lines) (number place : ℕ) (words after : List ℕ) → codedLines 0 read ≡ lines.Bad number place → Stores read words after
+none-stored : (read : Lines) (number place : ℕ) (words after : List ℕ) → codedLines 0 read ≡ lines.Bad number place →
+    Stores read words after
 none-stored (good items) number place words after e = impossible cc
 none-stored (bad n p) number place words after e = record { all = λ items q. impossible cc }
 
@@ -208,8 +229,10 @@ pub record Going (text : List ℕ) (start : ℕ) (first words : List ℕ) (index
 pub begins : (text : List ℕ) (start : ℕ) (words : List ℕ) → Going text start words words 0 start
 begins text start words = record { counts = refl; stores = refl; long = refl }
 
-module _ {text : List ℕ} {start : ℕ} {first words : List ℕ} {index at : ℕ} (g : Going text start first words index at) where
-  pub on : (word next : ℕ) (after : List ℕ) → Step text index at word next → after ≡ set words index word → Going text start first after (index + 1) next
+module _ {text : List ℕ} {start : ℕ} {first words : List ℕ} {index at : ℕ}
+    (g : Going text start first words index at) where
+  pub on : (word next : ℕ) (after : List ℕ) → Step text index at word next → after ≡ set words index word →
+      Going text start first after (index + 1) next
   on word next after s is =
       record {
         counts = g .counts ∙ ap (codedLines index) (s .first) ∙ count-on index (s .item) (linesFrom text (index + 1) next);
@@ -223,7 +246,8 @@ module _ {text : List ℕ} {start : ℕ} {first words : List ℕ} {index at : �
     pub answered : answer ≡ codedLines 0 (linesFrom text 0 start)
     pub kept : Stores (linesFrom text 0 start) first after
 
-  pub stopped : (number : ℕ) (after : List ℕ) → at < length text → nextRead index at (split 10 (drop at text)) ≡ following.Bad number → Read (lines.Bad number at) after
+  pub stopped : (number : ℕ) (after : List ℕ) → at < length text →
+      nextRead index at (split 10 (drop at text)) ≡ following.Bad number → Read (lines.Bad number at) after
   stopped number after h e =
       let found = g .counts ∙ ap (codedLines index) (stops text index at h number e) in
       record { answered = sym found; kept = none-stored (linesFrom text 0 start) number at first after found }

@@ -52,7 +52,8 @@ record Right (last : ℤ) (w : ℕ) : Type 0 where
 right-of : (last : ℤ) (w : ℕ) → checkOf last w ≡ verdict.Fine → Right last w
 right-of last w e = by (ltb 40 (opcodeOf w)) refl (allows (ruleOf (opcodeOf w)) last (operandOf w)) refl e
   where
-    by : (t : Bool) → ltb 40 (opcodeOf w) ≡ t → (u : Bool) → allows (ruleOf (opcodeOf w)) last (operandOf w) ≡ u → cond t verdict.BadOpcode (cond u verdict.Fine verdict.BadOperand) ≡ verdict.Fine → Right last w
+    by : (t : Bool) → ltb 40 (opcodeOf w) ≡ t → (u : Bool) → allows (ruleOf (opcodeOf w)) last (operandOf w) ≡ u →
+        cond t verdict.BadOpcode (cond u verdict.Fine verdict.BadOperand) ≡ verdict.Fine → Right last w
     by true t u p q = impossible cc
     by false t true p q = record { opcode = omega (arith, ltb-false 40 (opcodeOf w) t); rule = p }
     by false t false p q = impossible cc
@@ -66,7 +67,8 @@ all-of : (last : ℤ) (index w : ℕ) (ws : List ℕ) → firstBad last index (w
 unfolding firstBad
 all-of last index w ws e = by (checkOf last w) refl e
   where
-    by : (v : Verdict) → checkOf last w ≡ v → orElse (scanOf v index) (firstBad last (suc index) ws) ≡ Fine → All last index w ws
+    by : (v : Verdict) → checkOf last w ≡ v → orElse (scanOf v index) (firstBad last (suc index) ws) ≡ Fine →
+        All last index w ws
     by verdict.Fine v q = record { first = right-of last w v; others = q }
     by verdict.BadOpcode v q = impossible cc
     by verdict.BadOperand v q = impossible cc
@@ -104,7 +106,8 @@ length-items [] = refl
 length-items (w ∷ ws) = ap suc (length-items ws)
 
 -- none of them is against its rule
-pub none-against : (last : ℤ) (ws : List ℕ) (index : ℕ) → firstBad last index ws ≡ Fine → firstAgainst last index (itemsOf ws) ≡ none
+pub none-against : (last : ℤ) (ws : List ℕ) (index : ℕ) → firstBad last index ws ≡ Fine →
+    firstAgainst last index (itemsOf ws) ≡ none
 unfolding firstAgainst itemsOf
 none-against last [] index e = refl
 none-against last (w ∷ ws) index e =
@@ -131,25 +134,31 @@ module _ (last : ℤ) (w : ℕ) (r : Right last w) where
       (λ has. rw (has, known, operand-read (operandOf w) (told (operandOf w) (operand-fits w)), has))
       (λ has. rw (has, known, has) (ap (λ (k : ℤ). some (record { opcode = opcodeOf w; operand = k })) (bare-zero (ruleOf (opcodeOf w)) last (operandOf w) has (r .rule))))
 
-  line-read : (index : ℕ) → index < 10000 → lineRead (addressOf index ∷ nameOf (opcodeOf w) ∷ operandWords w) ≡ right index (itemOf w)
+  line-read : (index : ℕ) → index < 10000 →
+      lineRead (addressOf index ∷ nameOf (opcodeOf w) ∷ operandWords w) ≡ right index (itemOf w)
   unfolding lineRead
   line-read index h = rw (address-right index, item-read, address-read index h)
 
-  words-lack : (sep index : ℕ) → sep < 45 → lacks sep (nameOf (opcodeOf w)) ≡ true → AllLack sep (addressOf index ∷ nameOf (opcodeOf w) ∷ operandWords w)
+  words-lack : (sep index : ℕ) → sep < 45 → lacks sep (nameOf (opcodeOf w)) ≡ true →
+      AllLack sep (addressOf index ∷ nameOf (opcodeOf w) ∷ operandWords w)
   words-lack sep index h n =
       cases (hasOperand (ruleOf (opcodeOf w)))
       (λ has. rw has (address-lacks sep index (omega (arith, h)), (n, (signed-lacks sep (operandOf w) h (told (operandOf w) (operand-fits w)), tt))))
       (λ has. rw has (address-lacks sep index (omega (arith, h)), (n, tt)))
 
-  line-words : (index : ℕ) → split 32 (join 32 (addressOf index ∷ nameOf (opcodeOf w) ∷ operandWords w)) ≡ addressOf index ∷ nameOf (opcodeOf w) ∷ operandWords w
+  line-words : (index : ℕ) → split 32 (join 32 (addressOf index ∷ nameOf (opcodeOf w) ∷ operandWords w))
+      ≡ addressOf index ∷ nameOf (opcodeOf w) ∷ operandWords w
   line-words index = split-join 32 (addressOf index) (nameOf (opcodeOf w) ∷ operandWords w) (words-lack 32 index (omega arith) (named (opcodeOf w) (r .opcode) .no-space))
 
-  line-alone : (index : ℕ) (rest : List ℕ) → split 10 (instructionLine index w ++ rest) ≡ join 32 (addressOf index ∷ nameOf (opcodeOf w) ∷ operandWords w) ∷ split 10 rest
+  line-alone : (index : ℕ) (rest : List ℕ) →
+      split 10 (instructionLine index w ++ rest)
+      ≡ join 32 (addressOf index ∷ nameOf (opcodeOf w) ∷ operandWords w) ∷ split 10 rest
   line-alone index rest = line-first (addressOf index) (nameOf (opcodeOf w) ∷ operandWords w) rest (words-lack 10 index (omega arith) (named (opcodeOf w) (r .opcode) .no-feed))
 
 -- ---- all lines
 
-pub lines-read : (last : ℤ) (ws : List ℕ) (index place : ℕ) → index + length ws ≤ 10000 → firstBad last index ws ≡ Fine → linesRead index place (split 10 (instructionLines index ws)) ≡ good (itemsOf ws)
+pub lines-read : (last : ℤ) (ws : List ℕ) (index place : ℕ) → index + length ws ≤ 10000 →
+    firstBad last index ws ≡ Fine → linesRead index place (split 10 (instructionLines index ws)) ≡ good (itemsOf ws)
 unfolding instructionLines itemsOf linesRead split
 lines-read last [] index place h e = refl
 lines-read last (w ∷ ws) index place h e =
@@ -170,7 +179,8 @@ header-read g h =
     let words = split-join 32 cellsWord (decimal g ∷ []) (refl, (decimal-lacks 32 (decimal g) (omega arith) (decimal-written g h), tt)) in
     rw (words, same-self cellsWord, decimal-written g h, decimal-read g h)
 
-pub text-says : (last : ℤ) (g : ℕ) (ws : List ℕ) → g < 10 ^ 20 → length ws ≤ 10000 → firstBad last 0 ws ≡ Fine → said (textOf g ws) ≡ card g (itemsOf ws)
+pub text-says : (last : ℤ) (g : ℕ) (ws : List ℕ) → g < 10 ^ 20 → length ws ≤ 10000 → firstBad last 0 ws ≡ Fine →
+    said (textOf g ws) ≡ card g (itemsOf ws)
 unfolding bytes lacks
 text-says last g ws h many e =
     let words = cellsWord ∷ decimal g ∷ [] in

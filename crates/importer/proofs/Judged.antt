@@ -47,22 +47,26 @@ pub record Spelt (words : List (List ℕ)) (item : Item) : Type 0 where
   pub known : opcodeNamed name ≡ Opcode (item .opcode)
   pub follow : Operands others item
 
-bare : (name : List ℕ) (n : Named) (item : Item) → opcodeNamed name ≡ n → bareItem n ≡ some item → Spelt (name ∷ []) item
+bare : (name : List ℕ) (n : Named) (item : Item) → opcodeNamed name ≡ n → bareItem n ≡ some item →
+    Spelt (name ∷ []) item
 bare name Unknown item e q = impossible cc
 bare name (Opcode opcode) item e q = by (hasOperand (ruleOf opcode)) refl q
   where
-    by : (t : Bool) → hasOperand (ruleOf opcode) ≡ t → cond t none (some (record { opcode = opcode; operand = pos 0 })) ≡ some item → Spelt (name ∷ []) item
+    by : (t : Bool) → hasOperand (ruleOf opcode) ≡ t →
+        cond t none (some (record { opcode = opcode; operand = pos 0 })) ≡ some item → Spelt (name ∷ []) item
     by true t r = impossible cc
     by false t r =
         let same : opcode ≡ item .opcode = cc in
         record { name = name; others = []; are = refl; known = e ∙ ap Opcode same; follow = rw (← same) t }
 
-full : (name k : List ℕ) (n : Named) (o : Option ℤ) (item : Item) → opcodeNamed name ≡ n → operandRead k ≡ o → fullItem n o ≡ some item → Spelt (name ∷ k ∷ []) item
+full : (name k : List ℕ) (n : Named) (o : Option ℤ) (item : Item) → opcodeNamed name ≡ n → operandRead k ≡ o →
+    fullItem n o ≡ some item → Spelt (name ∷ k ∷ []) item
 full name k Unknown o item e p q = impossible cc
 full name k (Opcode opcode) none item e p q = impossible cc
 full name k (Opcode opcode) (some z) item e p q = by (hasOperand (ruleOf opcode)) refl q
   where
-    by : (t : Bool) → hasOperand (ruleOf opcode) ≡ t → cond t (some (record { opcode = opcode; operand = z })) none ≡ some item → Spelt (name ∷ k ∷ []) item
+    by : (t : Bool) → hasOperand (ruleOf opcode) ≡ t →
+        cond t (some (record { opcode = opcode; operand = z })) none ≡ some item → Spelt (name ∷ k ∷ []) item
     by true t r =
         let same : opcode ≡ item .opcode = cc in
         let number : z ≡ item .operand = cc in
@@ -88,12 +92,14 @@ pub record Spells (words : List (List ℕ)) (address : ℕ) (item : Item) : Type
   pub number : valueOf first ≡ address
   pub spelled : itemRead others ≡ some item
 
-pub spells : (words : List (List ℕ)) (address : ℕ) (item : Item) → lineRead words ≡ right address item → Spells words address item
+pub spells : (words : List (List ℕ)) (address : ℕ) (item : Item) → lineRead words ≡ right address item →
+    Spells words address item
 unfolding lineRead
 spells [] address item e = impossible cc
 spells (first ∷ others) address item e = by (isAddress first) refl (itemRead others) refl e
   where
-    by : (t : Bool) → isAddress first ≡ t → (o : Option Item) → itemRead others ≡ o → cond t (addressed (valueOf first) o) wrong ≡ right address item → Spells (first ∷ others) address item
+    by : (t : Bool) → isAddress first ≡ t → (o : Option Item) → itemRead others ≡ o →
+        cond t (addressed (valueOf first) o) wrong ≡ right address item → Spells (first ∷ others) address item
     by true t none o q = impossible cc
     by true t (some found) o q =
         let same : found ≡ item = cc in
@@ -108,11 +114,13 @@ pub record First (index place : ℕ) (l : Line) (rest : Lines) (items : List Ite
   pub line : l ≡ right index item
   pub follow : rest ≡ good others
 
-pub first-of : (index place : ℕ) (l : Line) (rest : Lines) (items : List Item) → judged l index place rest ≡ good items → First index place l rest items
+pub first-of : (index place : ℕ) (l : Line) (rest : Lines) (items : List Item) →
+    judged l index place rest ≡ good items → First index place l rest items
 first-of index place wrong rest items e = impossible cc
 first-of index place (right address item) rest items e = by (eqb address index) refl rest refl e
   where
-    by : (t : Bool) → eqb address index ≡ t → (r : Lines) → rest ≡ r → cond t (before item r) (bad 42 place) ≡ good items → First index place (right address item) rest items
+    by : (t : Bool) → eqb address index ≡ t → (r : Lines) → rest ≡ r →
+        cond t (before item r) (bad 42 place) ≡ good items → First index place (right address item) rest items
     by true t (good others) r q = record { item = item; others = others; are = cc; line = ap (λ (a : ℕ). right a item) (eqb-true address index t); follow = r }
     by true t (bad number at) r q = impossible cc
     by false t r p q = impossible cc
@@ -121,7 +129,8 @@ last-named : (last : List ℕ) (place : ℕ) (items : List Item) → lastRead la
 last-named [] place items e = let same : [] ≡ items = cc in rw (← same) tt
 last-named (b ∷ rest) place items e = impossible cc
 
-pub lines-named : (ls : List (List ℕ)) (index place : ℕ) (items : List Item) → linesRead index place ls ≡ good items → AllNamed items
+pub lines-named : (ls : List (List ℕ)) (index place : ℕ) (items : List Item) → linesRead index place ls ≡ good items →
+    AllNamed items
 unfolding linesRead
 lines-named [] index place items e = let same : [] ≡ items = cc in rw (← same) tt
 lines-named (l ∷ []) index place items e = last-named l place items e
@@ -158,7 +167,8 @@ word item h e =
 
 -- ---- one instruction, and all of them
 
-check-coded : (last : ℤ) (item : Item) → item .opcode < 41 → checkOf last (coded item) ≡ cond (isAllowed last item) verdict.Fine verdict.BadOperand
+check-coded : (last : ℤ) (item : Item) → item .opcode < 41 →
+    checkOf last (coded item) ≡ cond (isAllowed last item) verdict.Fine verdict.BadOperand
 check-coded last item h = by (inBits (item .operand)) refl
   where
     by : (t : Bool) → inBits (item .operand) ≡ t →
@@ -170,7 +180,8 @@ abbrev pub scanned : Option ℕ → Scan
 scanned none = Fine
 scanned (some index) = Bad 5 index
 
-pub first-coded : (last : ℤ) (items : List Item) (index : ℕ) → AllNamed items → firstBad last index (codedItems items) ≡ scanned (firstAgainst last index items)
+pub first-coded : (last : ℤ) (items : List Item) (index : ℕ) → AllNamed items →
+    firstBad last index (codedItems items) ≡ scanned (firstAgainst last index items)
 unfolding codedItems firstAgainst firstBad
 first-coded last [] index h = refl
 first-coded last (item ∷ items) index h = rw (check-coded last item (h .0)) (by (isAllowed last item) (first-coded last items (suc index) (h .1)))
@@ -181,12 +192,14 @@ first-coded last (item ∷ items) index h = rw (check-coded last item (h .0)) (b
     by false e = refl
 
 -- where none is against its rule, each has its own word
-pub allowed-coded : (last : ℤ) (items : List Item) (index : ℕ) → firstAgainst last index items ≡ none → codedItems items ≡ wordsOf items
+pub allowed-coded : (last : ℤ) (items : List Item) (index : ℕ) → firstAgainst last index items ≡ none →
+    codedItems items ≡ wordsOf items
 unfolding codedItems firstAgainst wordsOf
 allowed-coded last [] index e = refl
 allowed-coded last (item ∷ items) index e = by (inBits (item .operand)) refl (allows (ruleOf (item .opcode)) last (item .operand)) e (allowed-coded last items (suc index))
   where
-    by : (t : Bool) → inBits (item .operand) ≡ t → (u : Bool) → cond (t && u) (firstAgainst last (suc index) items) (some index) ≡ none →
+    by : (t : Bool) → inBits (item .operand) ≡ t → (u : Bool) →
+        cond (t && u) (firstAgainst last (suc index) items) (some index) ≡ none →
         (firstAgainst last (suc index) items ≡ none → codedItems items ≡ wordsOf items) → coded item ∷ codedItems items ≡ itemWord item ∷ wordsOf items
     by true t true q later = rw (t, later q)
     by true t false q later = impossible cc

@@ -72,28 +72,32 @@ module _ (word : List ℕ) where
   pub plain-is : (n : ℕ) → decimalOf word ≡ decimal.Value n → plainNumber n ≡ codedOperand (plainRead word)
   plain-is n e = by (isDecimal word) e
     where
-      by : (t : Bool) → cond t (decimal.Value (capped (valueOf word))) decimal.Wrong ≡ decimal.Value n → plainNumber n ≡ codedOperand (cond t (some (pos (valueOf word))) none)
+      by : (t : Bool) → cond t (decimal.Value (capped (valueOf word))) decimal.Wrong ≡ decimal.Value n →
+          plainNumber n ≡ codedOperand (cond t (some (pos (valueOf word))) none)
       by true q = let same : capped (valueOf word) ≡ n = cc in rw (← same) (plain-capped (valueOf word))
       by false q = never q
 
   pub plain-wrong : decimalOf word ≡ decimal.Wrong → operand.Wrong ≡ codedOperand (plainRead word)
   plain-wrong e = by (isDecimal word) e
     where
-      by : (t : Bool) → cond t (decimal.Value (capped (valueOf word))) decimal.Wrong ≡ decimal.Wrong → operand.Wrong ≡ codedOperand (cond t (some (pos (valueOf word))) none)
+      by : (t : Bool) → cond t (decimal.Value (capped (valueOf word))) decimal.Wrong ≡ decimal.Wrong →
+          operand.Wrong ≡ codedOperand (cond t (some (pos (valueOf word))) none)
       by true q = never (sym q)
       by false q = refl
 
   pub minus-is : (n : ℕ) → decimalOf word ≡ decimal.Value n → minusNumber n ≡ codedOperand (minusRead word)
   minus-is n e = by (isDecimal word) e
     where
-      by : (t : Bool) → cond t (decimal.Value (capped (valueOf word))) decimal.Wrong ≡ decimal.Value n → minusNumber n ≡ codedOperand (cond (t && not (eqb (valueOf word) 0)) (some (negsuc (valueOf word - 1))) none)
+      by : (t : Bool) → cond t (decimal.Value (capped (valueOf word))) decimal.Wrong ≡ decimal.Value n →
+          minusNumber n ≡ codedOperand (cond (t && not (eqb (valueOf word) 0)) (some (negsuc (valueOf word - 1))) none)
       by true q = let same : capped (valueOf word) ≡ n = cc in rw (← same) (minus-capped (valueOf word))
       by false q = never q
 
   pub minus-wrong : decimalOf word ≡ decimal.Wrong → operand.Wrong ≡ codedOperand (minusRead word)
   minus-wrong e = by (isDecimal word) e
     where
-      by : (t : Bool) → cond t (decimal.Value (capped (valueOf word))) decimal.Wrong ≡ decimal.Wrong → operand.Wrong ≡ codedOperand (cond (t && not (eqb (valueOf word) 0)) (some (negsuc (valueOf word - 1))) none)
+      by : (t : Bool) → cond t (decimal.Value (capped (valueOf word))) decimal.Wrong ≡ decimal.Wrong →
+          operand.Wrong ≡ codedOperand (cond (t && not (eqb (valueOf word) 0)) (some (negsuc (valueOf word - 1))) none)
       by true q = never (sym q)
       by false q = refl
 
@@ -145,15 +149,18 @@ unfolding lacks operandRead
 operand-lacks sep [] k h e = refl
 operand-lacks sep (b ∷ rest) k h e = by (eqb b 45) refl e
   where
-    after-minus : (t : Bool) → isDecimal rest ≡ t → cond (t && not (eqb (valueOf rest) 0)) (some (negsuc (valueOf rest - 1))) none ≡ some k → lacks sep rest ≡ true
+    after-minus : (t : Bool) → isDecimal rest ≡ t →
+        cond (t && not (eqb (valueOf rest) 0)) (some (negsuc (valueOf rest - 1))) none ≡ some k → lacks sep rest ≡ true
     after-minus true t q = decimal-lacks sep rest (omega (arith, h)) t
     after-minus false t q = impossible cc
 
-    plain : (t : Bool) → isDecimal (b ∷ rest) ≡ t → cond t (some (pos (valueOf (b ∷ rest)))) none ≡ some k → lacks sep (b ∷ rest) ≡ true
+    plain : (t : Bool) → isDecimal (b ∷ rest) ≡ t → cond t (some (pos (valueOf (b ∷ rest)))) none ≡ some k →
+        lacks sep (b ∷ rest) ≡ true
     plain true t q = decimal-lacks sep (b ∷ rest) (omega (arith, h)) t
     plain false t q = impossible cc
 
-    by : (t : Bool) → eqb b 45 ≡ t → cond t (minusRead rest) (plainRead (b ∷ rest)) ≡ some k → lacks sep (b ∷ rest) ≡ true
+    by : (t : Bool) → eqb b 45 ≡ t → cond t (minusRead rest) (plainRead (b ∷ rest)) ≡ some k →
+        lacks sep (b ∷ rest) ≡ true
     by true t q = rw (ne-eqb b sep (λ same. omega (arith, same, h, eqb-true b 45 t))) (after-minus (isDecimal rest) refl q)
     by false t q = plain (isDecimal (b ∷ rest)) refl q
 
@@ -165,7 +172,8 @@ other-length word ne = rw (ne-eqb (length word) 4 ne)
 pub no-digits : (word : List ℕ) → length word ≡ 4 → allDigits word ≡ false → address.Wrong ≡ addressRead word
 no-digits word four e = rw (eq-eqb (length word) 4 four, e)
 
-pub four-digits : (word : List ℕ) (n : ℕ) → length word ≡ 4 → allDigits word ≡ true → n ≡ capped (valueOf word) → address.Number n ≡ addressRead word
+pub four-digits : (word : List ℕ) (n : ℕ) → length word ≡ 4 → allDigits word ≡ true → n ≡ capped (valueOf word) →
+    address.Number n ≡ addressRead word
 four-digits word n four e is =
     let small : valueOf word < 10 ^ 4 = value-less 0 0 word 4 (omega (arith, four)) e (omega arith) in
     let same : n ≡ valueOf word = is ∙ capped-small (valueOf word) (omega (arith, small)) in

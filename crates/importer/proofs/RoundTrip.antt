@@ -55,7 +55,8 @@ accepted (card g items) room size e = by-range (outOfRange g || outOfRange (leng
     roomy : Bool → Result
     roomy t = cond t (refuses 43 0) (gives (imageSize n))
 
-    by-room : (outOfRange g || outOfRange n) ≡ false → firstAgainst (lastOf n) 0 items ≡ none → (t : Bool) → ltb room (imageSize n) ≡ t → roomy t ≡ gives size → Accepts (card g items) room size
+    by-room : (outOfRange g || outOfRange n) ≡ false → firstAgainst (lastOf n) 0 items ≡ none → (t : Bool) →
+        ltb room (imageSize n) ≡ t → roomy t ≡ gives size → Accepts (card g items) room size
     by-room range rules true t q = never q
     by-room range rules false t q =
         let both = or-false (outOfRange g) (outOfRange n) range in
@@ -70,15 +71,19 @@ accepted (card g items) room size e = by-range (outOfRange g || outOfRange (leng
           exact = cc;
         }
 
-    by-rules : (outOfRange g || outOfRange n) ≡ false → (o : Option ℕ) → firstAgainst (lastOf n) 0 items ≡ o → afterRules o (roomy (ltb room (imageSize n))) ≡ gives size → Accepts (card g items) room size
+    by-rules : (outOfRange g || outOfRange n) ≡ false → (o : Option ℕ) → firstAgainst (lastOf n) 0 items ≡ o →
+        afterRules o (roomy (ltb room (imageSize n))) ≡ gives size → Accepts (card g items) room size
     by-rules range none o q = by-room range o (ltb room (imageSize n)) refl q
     by-rules range (some index) o q = never q
 
-    by-range : (t : Bool) → (outOfRange g || outOfRange n) ≡ t → cond t (refuses 3 5) (afterRules (firstAgainst (lastOf n) 0 items) (roomy (ltb room (imageSize n)))) ≡ gives size → Accepts (card g items) room size
+    by-range : (t : Bool) → (outOfRange g || outOfRange n) ≡ t →
+        cond t (refuses 3 5) (afterRules (firstAgainst (lastOf n) 0 items) (roomy (ltb room (imageSize n))))
+        ≡ gives size → Accepts (card g items) room size
     by-range true t q = never q
     by-range false t q = by-rules t (firstAgainst (lastOf n) 0 items) refl q
 
-answers : (g : ℕ) (items : List Item) (room : ℕ) → InRange g → InRange (length items) → firstAgainst (lastOf (length items)) 0 items ≡ none → imageSize (length items) ≤ room →
+answers : (g : ℕ) (items : List Item) (room : ℕ) → InRange g → InRange (length items) →
+    firstAgainst (lastOf (length items)) 0 items ≡ none → imageSize (length items) ≤ room →
     answerOf (card g items) room ≡ gives (imageSize (length items))
 unfolding answerOf
 answers g items room cells many rules fits = rw (neither (outOfRange g) (outOfRange (length items)) (not-out g cells) (not-out (length items) many), rules, le-ltb room (imageSize (length items)) fits)
@@ -106,7 +111,8 @@ listed-is-imported cells image buffer h room e =
 
 -- ---- from a text to its image and back
 
-words-small : (last : ℤ) (items : List Item) (index : ℕ) → AllNamed items → firstAgainst last index items ≡ none → Each 4294967296 (wordsOf items)
+words-small : (last : ℤ) (items : List Item) (index : ℕ) → AllNamed items → firstAgainst last index items ≡ none →
+    Each 4294967296 (wordsOf items)
 unfolding wordsOf
 words-small last [] index named rules i = omega arith
 words-small last (item ∷ items) index named rules zero = word item (named .0) (allowed last index item items rules .fits) .small

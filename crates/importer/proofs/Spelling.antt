@@ -49,38 +49,47 @@ module _ (sep : ℕ) (l : List ℕ) (r : ℕ) (at : r ≡ 0 + length (upTo sep l
 
 -- ---- an instruction with and without an operand
 
-pub needs-operand : (opcode : ℕ) → hasOperand (ruleOf opcode) ≡ true → entry.Wrong ≡ codedEntry (bareItem (Opcode opcode))
+pub needs-operand : (opcode : ℕ) → hasOperand (ruleOf opcode) ≡ true →
+    entry.Wrong ≡ codedEntry (bareItem (Opcode opcode))
 needs-operand opcode e = rw e
 
-pub bare-is : (opcode : ℕ) → hasOperand (ruleOf opcode) ≡ false → entry.Word (opcode * 16777216) ≡ codedEntry (bareItem (Opcode opcode))
+pub bare-is : (opcode : ℕ) → hasOperand (ruleOf opcode) ≡ false →
+    entry.Word (opcode * 16777216) ≡ codedEntry (bareItem (Opcode opcode))
 bare-is opcode e = rw e (ap entry.Word (omega arith))
 
-pub takes-none : (opcode : ℕ) (o : Option ℤ) → hasOperand (ruleOf opcode) ≡ false → entry.Wrong ≡ codedEntry (fullItem (Opcode opcode) o)
+pub takes-none : (opcode : ℕ) (o : Option ℤ) → hasOperand (ruleOf opcode) ≡ false →
+    entry.Wrong ≡ codedEntry (fullItem (Opcode opcode) o)
 takes-none opcode none e = refl
 takes-none opcode (some k) e = rw e
 
 module _ (opcode : ℕ) (has : hasOperand (ruleOf opcode) ≡ true) where
-  pub full-bits : (o : Option ℤ) (bits : ℕ) → codedOperand o ≡ operand.Bits bits → entry.Word (opcode * 16777216 + bits) ≡ codedEntry (fullItem (Opcode opcode) o)
+  pub full-bits : (o : Option ℤ) (bits : ℕ) → codedOperand o ≡ operand.Bits bits →
+      entry.Word (opcode * 16777216 + bits) ≡ codedEntry (fullItem (Opcode opcode) o)
   full-bits none bits e = impossible cc
   full-bits (some k) bits e = rw has (by (inBits k) e)
     where
-      by : (t : Bool) → cond t (operand.Bits (bitsOf k)) operand.Beyond ≡ operand.Bits bits → entry.Word (opcode * 16777216 + bits) ≡ entry.Word (cond t (opcode * 16777216 + bitsOf k) 1)
+      by : (t : Bool) → cond t (operand.Bits (bitsOf k)) operand.Beyond ≡ operand.Bits bits →
+          entry.Word (opcode * 16777216 + bits) ≡ entry.Word (cond t (opcode * 16777216 + bitsOf k) 1)
       by true q = let same : bitsOf k ≡ bits = cc in ap (λ (b : ℕ). entry.Word (opcode * 16777216 + b)) (sym same)
       by false q = impossible cc
 
-  pub full-beyond : (o : Option ℤ) → codedOperand o ≡ operand.Beyond → entry.Word 1 ≡ codedEntry (fullItem (Opcode opcode) o)
+  pub full-beyond : (o : Option ℤ) → codedOperand o ≡ operand.Beyond →
+      entry.Word 1 ≡ codedEntry (fullItem (Opcode opcode) o)
   full-beyond none e = impossible cc
   full-beyond (some k) e = rw has (by (inBits k) e)
     where
-      by : (t : Bool) → cond t (operand.Bits (bitsOf k)) operand.Beyond ≡ operand.Beyond → entry.Word 1 ≡ entry.Word (cond t (opcode * 16777216 + bitsOf k) 1)
+      by : (t : Bool) → cond t (operand.Bits (bitsOf k)) operand.Beyond ≡ operand.Beyond →
+          entry.Word 1 ≡ entry.Word (cond t (opcode * 16777216 + bitsOf k) 1)
       by true q = impossible cc
       by false q = refl
 
-  pub full-wrong : (o : Option ℤ) → codedOperand o ≡ operand.Wrong → entry.Wrong ≡ codedEntry (fullItem (Opcode opcode) o)
+  pub full-wrong : (o : Option ℤ) → codedOperand o ≡ operand.Wrong →
+      entry.Wrong ≡ codedEntry (fullItem (Opcode opcode) o)
   full-wrong none e = refl
   full-wrong (some k) e = by (inBits k) e
     where
-      by : (t : Bool) → cond t (operand.Bits (bitsOf k)) operand.Beyond ≡ operand.Wrong → entry.Wrong ≡ codedEntry (fullItem (Opcode opcode) (some k))
+      by : (t : Bool) → cond t (operand.Bits (bitsOf k)) operand.Beyond ≡ operand.Wrong →
+          entry.Wrong ≡ codedEntry (fullItem (Opcode opcode) (some k))
       by true q = impossible cc
       by false q = impossible cc
 
@@ -114,10 +123,12 @@ one-word name w =
 pub no-address : (a : Address) (word index : ℕ) → a ≡ address.Wrong → line.Bad 41 ≡ placedLine a word index
 no-address a word index e = rw e
 
-pub in-place : (a : Address) (at word index : ℕ) → a ≡ address.Number at → at ≡ index → line.Word word ≡ placedLine a word index
+pub in-place : (a : Address) (at word index : ℕ) → a ≡ address.Number at → at ≡ index →
+    line.Word word ≡ placedLine a word index
 in-place a at word index e same = rw (e, eq-eqb at index same)
 
-pub out-of-place : (a : Address) (at word index : ℕ) → a ≡ address.Number at → at ≢ index → line.Bad 42 ≡ placedLine a word index
+pub out-of-place : (a : Address) (at word index : ℕ) → a ≡ address.Number at → at ≢ index →
+    line.Bad 42 ≡ placedLine a word index
 out-of-place a at word index e other = rw (e, ne-eqb at index other)
 
 -- ---- the words of a line
@@ -140,14 +151,16 @@ module _ (word : List ℕ) (rest : List (List ℕ)) where
       by false = refl
   no-item (some item) e q = impossible cc
 
-  pub line-is : (o : Option Item) (w index : ℕ) → itemRead rest ≡ o → codedEntry o ≡ entry.Word w → placedLine (addressRead word) w index ≡ codedLine (lineRead (word ∷ rest)) index
+  pub line-is : (o : Option Item) (w index : ℕ) → itemRead rest ≡ o → codedEntry o ≡ entry.Word w →
+      placedLine (addressRead word) w index ≡ codedLine (lineRead (word ∷ rest)) index
   unfolding lineRead
   line-is none w index e q = impossible cc
   line-is (some item) w index e q =
       let same : coded item ≡ w = cc in
       rw (e, ← same) (by (isAddress word))
     where
-      by : (t : Bool) → placedLine (cond t (address.Number (valueOf word)) address.Wrong) (coded item) index ≡ codedLine (cond t (right (valueOf word) item) wrong) index
+      by : (t : Bool) → placedLine (cond t (address.Number (valueOf word)) address.Wrong) (coded item) index
+          ≡ codedLine (cond t (right (valueOf word) item) wrong) index
       by true = refl
       by false = refl
 
@@ -157,13 +170,15 @@ pub no-number : (word : List ℕ) → codedCells (headerRead (word ∷ [])) ≡ 
 unfolding headerRead
 no-number word = refl
 
-pub other-word : (word : List ℕ) (others : List (List ℕ)) → same word cellsWord ≡ false → codedCells (headerRead (word ∷ others)) ≡ decimal.Wrong
+pub other-word : (word : List ℕ) (others : List (List ℕ)) → same word cellsWord ≡ false →
+    codedCells (headerRead (word ∷ others)) ≡ decimal.Wrong
 unfolding headerRead
 other-word word [] e = refl
 other-word word (number ∷ []) e = rw e
 other-word word (number ∷ l ∷ more) e = refl
 
-pub cells-is : (word w : List ℕ) → same word cellsWord ≡ true → codedCells (headerRead (word ∷ split 32 w)) ≡ decimalOf w
+pub cells-is : (word w : List ℕ) → same word cellsWord ≡ true →
+    codedCells (headerRead (word ∷ split 32 w)) ≡ decimalOf w
 unfolding headerRead
 cells-is word w e =
     cases (lacks 32 w)
@@ -172,11 +187,13 @@ cells-is word w e =
     let t = two 32 w l in
     rw (t .are) (unread (isDecimal w) refl l))
   where
-    by : (t : Bool) → codedCells (cond t (some (valueOf w)) none) ≡ cond t (decimal.Value (capped (valueOf w))) decimal.Wrong
+    by : (t : Bool) → codedCells (cond t (some (valueOf w)) none)
+        ≡ cond t (decimal.Value (capped (valueOf w))) decimal.Wrong
     by true = refl
     by false = refl
 
-    unread : (t : Bool) → isDecimal w ≡ t → lacks 32 w ≡ false → decimal.Wrong ≡ cond t (decimal.Value (capped (valueOf w))) decimal.Wrong
+    unread : (t : Bool) → isDecimal w ≡ t → lacks 32 w ≡ false →
+        decimal.Wrong ≡ cond t (decimal.Value (capped (valueOf w))) decimal.Wrong
     unread true q l = clash (decimal-lacks 32 w (omega arith) q) l
     unread false q l = refl
 
@@ -192,22 +209,28 @@ module _ (l : List ℕ) (r : ℕ) (at : r ≡ 0 + length (upTo 32 l)) where
       ap itemRead (uncut 32 l r at end) ∙ no-name l [] (ap opcodeNamed (sym (all-taken 32 l r at end)) ∙ e))
 
   -- a name alone, and one with more behind it
-  pub bare-item : (opcode : ℕ) → r ≡ length l → opcodeNamed (take r l) ≡ Opcode opcode → bareItem (Opcode opcode) ≡ itemRead (split 32 l)
+  pub bare-item : (opcode : ℕ) → r ≡ length l → opcodeNamed (take r l) ≡ Opcode opcode →
+      bareItem (Opcode opcode) ≡ itemRead (split 32 l)
   unfolding itemRead
   bare-item opcode end e = rw (uncut 32 l r at end) (ap bareItem (sym e ∙ ap opcodeNamed (all-taken 32 l r at end)))
 
-  pub full-item : (opcode : ℕ) → r < length l → opcodeNamed (take r l) ≡ Opcode opcode → fullItem (Opcode opcode) (operandRead (take (length l - (r + 1)) (drop (r + 1) l))) ≡ itemRead (split 32 l)
+  pub full-item : (opcode : ℕ) → r < length l → opcodeNamed (take r l) ≡ Opcode opcode →
+      fullItem (Opcode opcode) (operandRead (take (length l - (r + 1)) (drop (r + 1) l))) ≡ itemRead (split 32 l)
   full-item opcode less e =
       let left = rest (r + 1) l in
       sym (ap itemRead (cut-at 32 l r at less) ∙ one-word (take r l) (drop (r + 1) l) ∙ rw (e, left))
 
   -- an address with a right item behind it, and with none
-  pub line-wrong : r < length l → codedEntry (itemRead (split 32 (take (length l - (r + 1)) (drop (r + 1) l)))) ≡ entry.Wrong → lineRead (split 32 l) ≡ wrong
+  pub line-wrong : r < length l →
+      codedEntry (itemRead (split 32 (take (length l - (r + 1)) (drop (r + 1) l)))) ≡ entry.Wrong →
+      lineRead (split 32 l) ≡ wrong
   line-wrong less e =
       let item : codedEntry (itemRead (split 32 (drop (r + 1) l))) ≡ entry.Wrong = ap (λ (w : List ℕ). codedEntry (itemRead (split 32 w))) (sym (rest (r + 1) l)) ∙ e in
       ap lineRead (cut-at 32 l r at less) ∙ no-item (take r l) (split 32 (drop (r + 1) l)) _ refl item
 
-  pub line-right : (word index : ℕ) (a : Address) → r < length l → codedEntry (itemRead (split 32 (take (length l - (r + 1)) (drop (r + 1) l)))) ≡ entry.Word word → a ≡ addressRead (take r l) →
+  pub line-right : (word index : ℕ) (a : Address) → r < length l →
+      codedEntry (itemRead (split 32 (take (length l - (r + 1)) (drop (r + 1) l)))) ≡ entry.Word word →
+      a ≡ addressRead (take r l) →
       placedLine a word index ≡ codedLine (lineRead (split 32 l)) index
   line-right word index a less e is =
       let item : codedEntry (itemRead (split 32 (drop (r + 1) l))) ≡ entry.Word word = ap (λ (w : List ℕ). codedEntry (itemRead (split 32 w))) (sym (rest (r + 1) l)) ∙ e in
@@ -216,10 +239,12 @@ module _ (l : List ℕ) (r : ℕ) (at : r ≡ 0 + length (upTo 32 l)) where
       ∙ ap (λ (ps : List (List ℕ)). codedLine (lineRead ps) index) (sym (cut-at 32 l r at less)))
 
   -- a header's number
-  pub other-header : r < length l → same (take r l) cellsWord ≡ false → codedCells (headerRead (split 32 l)) ≡ decimal.Wrong
+  pub other-header : r < length l → same (take r l) cellsWord ≡ false →
+      codedCells (headerRead (split 32 l)) ≡ decimal.Wrong
   other-header less e = ap (λ (ps : List (List ℕ)). codedCells (headerRead ps)) (cut-at 32 l r at less) ∙ other-word (take r l) (split 32 (drop (r + 1) l)) e
 
-  pub header-is : r < length l → same (take r l) cellsWord ≡ true → decimalOf (take (length l - (r + 1)) (drop (r + 1) l)) ≡ codedCells (headerRead (split 32 l))
+  pub header-is : r < length l → same (take r l) cellsWord ≡ true →
+      decimalOf (take (length l - (r + 1)) (drop (r + 1) l)) ≡ codedCells (headerRead (split 32 l))
   header-is less e =
       ap decimalOf (rest (r + 1) l) ∙ sym (cells-is (take r l) (drop (r + 1) l) e)
       ∙ ap (λ (ps : List (List ℕ)). codedCells (headerRead ps)) (sym (cut-at 32 l r at less))

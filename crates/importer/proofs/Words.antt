@@ -62,14 +62,16 @@ unfolding operandRead
 operand-back [] k e h = impossible cc
 operand-back (b ∷ rest) k e h = by (eqb b 45) refl e
   where
-    plain : (t : Bool) → isDecimal (b ∷ rest) ≡ t → cond t (some (pos (valueOf (b ∷ rest)))) none ≡ some k → signed k ≡ b ∷ rest
+    plain : (t : Bool) → isDecimal (b ∷ rest) ≡ t → cond t (some (pos (valueOf (b ∷ rest)))) none ≡ some k →
+        signed k ≡ b ∷ rest
     plain true t q =
         let same : pos (valueOf (b ∷ rest)) ≡ k = cc in
         let small : valueOf (b ∷ rest) < 10 ^ 20 = rw (← same) at h in
         ap signed (sym same) ∙ reads-back (b ∷ rest) t small
     plain false t q = impossible cc
 
-    minus : (t : Bool) → (isDecimal rest && not (eqb (valueOf rest) 0)) ≡ t → b ≡ 45 → cond t (some (negsuc (valueOf rest - 1))) none ≡ some k → signed k ≡ b ∷ rest
+    minus : (t : Bool) → (isDecimal rest && not (eqb (valueOf rest) 0)) ≡ t → b ≡ 45 →
+        cond t (some (negsuc (valueOf rest - 1))) none ≡ some k → signed k ≡ b ∷ rest
     minus true t first q =
         let both = and-true (isDecimal rest) (not (eqb (valueOf rest) 0)) t in
         let least = eqb-false (valueOf rest) 0 (not-true (eqb (valueOf rest) 0) (both .1)) in
@@ -114,9 +116,11 @@ line-is word [] = refl
 line-is word (next ∷ others) = ap (λ (l : List ℕ). word ++ 32 ∷ l) (line-is next others) ∙ sym (append-assoc word (32 ∷ join 32 (next ∷ others)) (10 ∷ []))
 
 -- what follows a line
-pub line-then : (word : List ℕ) (others : List (List ℕ)) (rest : List ℕ) → line word others ++ rest ≡ join 32 (word ∷ others) ++ 10 ∷ rest
+pub line-then : (word : List ℕ) (others : List (List ℕ)) (rest : List ℕ) →
+    line word others ++ rest ≡ join 32 (word ∷ others) ++ 10 ∷ rest
 line-then word others rest = ap (λ (l : List ℕ). l ++ rest) (line-is word others) ∙ append-snoc (join 32 (word ∷ others)) 10 rest
 
 -- the first line is cut off at its line feed
-pub line-first : (word : List ℕ) (others : List (List ℕ)) (rest : List ℕ) → AllLack 10 (word ∷ others) → split 10 (line word others ++ rest) ≡ join 32 (word ∷ others) ∷ split 10 rest
+pub line-first : (word : List ℕ) (others : List (List ℕ)) (rest : List ℕ) → AllLack 10 (word ∷ others) →
+    split 10 (line word others ++ rest) ≡ join 32 (word ∷ others) ∷ split 10 rest
 line-first word others rest h = ap (split 10) (line-then word others rest) ∙ part-first 10 (join 32 (word ∷ others)) rest (lacks-join 32 10 word others refl h)

@@ -20,12 +20,14 @@ use Rattle.line.specs.Line.{Prints, PutsLine, room}
 use Rattle.line.specs.declared.answers.Line.the-variants.{Written, NoRoom}
 
 -- a refused set-up is the whole of it
-pub stops : (size : ℕ) (image : List ℕ) (box : Box) → isRefused (setUp size image box .answer) ≡ true → runnerIn size image box ≡ setUp size image box
+pub stops : (size : ℕ) (image : List ℕ) (box : Box) → isRefused (setUp size image box .answer) ≡ true →
+    runnerIn size image box ≡ setUp size image box
 unfolding runnerIn
 stops size image box e = rw e
 
 -- else the run follows
-pub goes-on : (size : ℕ) (image : List ℕ) (box : Box) → isRefused (setUp size image box .answer) ≡ false → runnerIn size image box ≡ runCall size image stepLimit (setUp size image box .box)
+pub goes-on : (size : ℕ) (image : List ℕ) (box : Box) → isRefused (setUp size image box .answer) ≡ false →
+    runnerIn size image box ≡ runCall size image stepLimit (setUp size image box .box)
 unfolding runnerIn
 goes-on size image box e = rw e
 
@@ -35,7 +37,8 @@ pub was-refused : {called : Called} {o : Outcome} {store : List ℤ} {tables : L
 was-refused g e f = ap isRefused (sym (g .answered)) ∙ sym e ∙ f
 
 -- the box that a call left
-pub left-as : {called : Called} {o : Outcome} {store : List ℤ} {tables : List ℕ} {values : List ℤ} → Gives called o store tables values → boxed store tables values (o .registers) ≡ called .box
+pub left-as : {called : Called} {o : Outcome} {store : List ℤ} {tables : List ℕ} {values : List ℤ} →
+    Gives called o store tables values → boxed store tables values (o .registers) ≡ called .box
 left-as g = rw (g .registers, g .in-store, g .in-tables, g .in-values)
 
 -- the line of a call's result
@@ -48,7 +51,8 @@ lined {called} g p =
     (p (called .box) (sym (ap (λ (r : Registers). r .thread) (g .registers))) (sym (g .in-tables)) (sym (g .in-values)))
 
 -- the line of an input is that of its judged part
-pub judged-line : (input : List ℕ) {image : List ℕ} → judgedPart input ≡ image → runnerLine full input ≡ lineOf full (runnerCall full image)
+pub judged-line : (input : List ℕ) {image : List ℕ} → judgedPart input ≡ image →
+    runnerLine full input ≡ lineOf full (runnerCall full image)
 unfolding runnerLine
 judged-line input e = ap (λ (part : List ℕ). lineOf full (runnerCall full part)) e
 
@@ -62,7 +66,8 @@ shut h =
     }
 
 -- a line in a buffer with room is what is printed
-pub printed : {input text before after : List ℕ} {n : ℕ} → runnerLine full input ≡ text → room ≤ length before → Puts text before 0 after n → n ≤ room →
+pub printed : {input text before after : List ℕ} {n : ℕ} → runnerLine full input ≡ text → room ≤ length before →
+    Puts text before 0 after n → n ≤ room →
     Prints input before (Written n) after
 printed {input} {text} {before} {after} {n} line h p short =
     let size : n ≡ length text = omega (arith, p .reached) in

@@ -45,7 +45,8 @@ abbrev pub writer-spent : Stay WriterS no
 writer-spent = held no spends
 
 module _ {M : Type 1} (𝓤 : URA M) (H : Heap 𝓤) (A : Atoms 𝓤) (W : Given 𝓤 H A) where
-  pub held-goes : (k : Kept) (hs : Fields slots k) → FieldsGo 𝓤 H A W 1 slots k hs → Goes 𝓤 H A W 1 WriterS k (held k hs)
+  pub held-goes : (k : Kept) (hs : Fields slots k) → FieldsGo 𝓤 H A W 1 slots k hs →
+      Goes 𝓤 H A W 1 WriterS k (held k hs)
   held-goes k hs gs =
       goes-declared 𝓤 H A W 1 (structAt name (named 0 ∷ []) slots) k (stay-struct-at name (named 0 ∷ []) slots k hs) Writer (λ κs. T.the-type (namedLft 1 0 tt κs) .to) (λ κs. T.the-type (namedLft 1 0 tt κs) .to-one)
       (goes-struct-at 𝓤 H A W 1 name (named 0 ∷ []) slots k hs gs)

@@ -54,7 +54,8 @@ module _ (image before : List ℕ) (line : ℕ) where
     pub no-room : length before < n → Leaves (lineOf image line (length before)) image line before (Refused 43 0) before
     no-room full = rw (le-ltb _ _ h, ← size, lt-ltb _ _ full) (record { answered = refl; some = λ k e. impossible cc; left = refl })
 
-    pub copied : {after : List ℕ} {next : ℕ} → n ≤ length before → n ≤ length lent → Puts (take n made) before 0 after next
+    pub copied : {after : List ℕ} {next : ℕ} → n ≤ length before → n ≤ length lent →
+        Puts (take n made) before 0 after next
         → Leaves (lineOf image line (length before)) image line before (Written n) after
     copied {after} {next} fits room p =
         let text : take n made ≡ imageLine image line = start put room ∙ ap (lineText line) shown in
@@ -67,13 +68,15 @@ module _ (image before : List ℕ) (line : ℕ) where
 
 -- ---- any image
 
-pub refused : (image before : List ℕ) (line number place : ℕ) → readOf image ≡ refuses number place → Lists image line before (Refused number place) before
+pub refused : (image before : List ℕ) (line number place : ℕ) → readOf image ≡ refuses number place →
+    Lists image line before (Refused number place) before
 unfolding listOf
 refused image before line number place e = rw e (record { answered = refl; some = λ k is. impossible cc; left = refl })
 
 pub head : (image : List ℕ) (cells : ℕ) → readOf image ≡ gives cells → Headed image
 head image cells e = let a = accepts image cells e in headed image (a .long) (a .sized)
 
-pub listed-as : (image before : List ℕ) (line cells : ℕ) → readOf image ≡ gives cells → listOf image line (length before) ≡ lineOf image line (length before)
+pub listed-as : (image before : List ℕ) (line cells : ℕ) → readOf image ≡ gives cells →
+    listOf image line (length before) ≡ lineOf image line (length before)
 unfolding listOf
 listed-as image before line cells e = rw e

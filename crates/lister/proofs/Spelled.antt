@@ -23,11 +23,13 @@ pub digit-is : (n : ℕ) → 48 + n % 10 ≡ glyph (n % 10)
 digit-is n = let small : n % 10 < 10 = omega arith in rw (lt-ltb (n % 10) 10 small)
 
 -- four of them are an address
-pub address-is : (index a b c d : ℕ) → a ≡ glyph (index / 10 / 10 / 10 % 10) → b ≡ glyph (index / 10 / 10 % 10) → c ≡ glyph (index / 10 % 10) → d ≡ glyph (index % 10) → a ∷ b ∷ c ∷ d ∷ [] ≡ addressOf index
+pub address-is : (index a b c d : ℕ) → a ≡ glyph (index / 10 / 10 / 10 % 10) → b ≡ glyph (index / 10 / 10 % 10) →
+    c ≡ glyph (index / 10 % 10) → d ≡ glyph (index % 10) → a ∷ b ∷ c ∷ d ∷ [] ≡ addressOf index
 address-is index a b c d p q r t = rw (p, q, r, t)
 
 -- nothing is written where there is no operand
-pub no-operand : (w at : ℕ) (buffer : List ℕ) → hasOperand (ruleOf (opcodeOf w)) ≡ false → Puts (operandText w) buffer at buffer at
+pub no-operand : (w at : ℕ) (buffer : List ℕ) → hasOperand (ruleOf (opcodeOf w)) ≡ false →
+    Puts (operandText w) buffer at buffer at
 no-operand w at buffer e = rw e (record { written = refl; reached = omega arith })
 
 -- ---- a piece by its line's number, and by its own
@@ -64,7 +66,8 @@ line-ends : (name : List ℕ) (w : ℕ) → name ++ (operandText w ++ 10 ∷ [])
 unfolding line
 line-ends name w = by (hasOperand (ruleOf (opcodeOf w)))
   where
-    by : (t : Bool) → name ++ (cond t (32 ∷ signed (operandOf w)) [] ++ 10 ∷ []) ≡ line name (cond t (signed (operandOf w) ∷ []) [])
+    by : (t : Bool) → name ++ (cond t (32 ∷ signed (operandOf w)) [] ++ 10 ∷ [])
+        ≡ line name (cond t (signed (operandOf w) ∷ []) [])
     by true = refl
     by false = refl
 

@@ -14,7 +14,8 @@ use Rattle.lister.specs.Listing.{LinesAreListing, imageLine, linesFrom}
 use Rattle.lister.specs.Text.{instructionLines}
 
 -- the lines from instruction `index` on, of which `left` are left
-from : (image : List ℕ) (index left : ℕ) → length (drop 9 image) ≡ 4 * (index + left) → linesFrom image (suc index) left ≡ instructionLines index (drop index (wordsOf (drop 9 image)))
+from : (image : List ℕ) (index left : ℕ) → length (drop 9 image) ≡ 4 * (index + left) →
+    linesFrom image (suc index) left ≡ instructionLines index (drop index (wordsOf (drop 9 image)))
 unfolding instructionLines linesFrom
 from image index zero h =
     let all : length (wordsOf (drop 9 image)) ≤ index = omega (arith, count (drop 9 image) (index + 0) h) in

@@ -21,10 +21,12 @@ module _ {size n w op : ℕ} (is : op ≡ opcodeOf w) {store : List ℤ} {t : �
   tried {a} e h = record { is = λ ok tables values r. rw (← is, e, h .is tables values r, ok); kept = h .kept }
 
   -- the way back from a call
-  pub went-back : {a : Attempt} → instructionOf op (operandOf w) ≡ return → GoesBack size n store t c a → Ventures size n w store t c store a
+  pub went-back : {a : Attempt} → instructionOf op (operandOf w) ≡ return → GoesBack size n store t c a →
+      Ventures size n w store t c store a
   went-back e h =
       record { is = λ ok tables values r. rw (← is, e, h .tries (h .other ok) .is tables values r, ok); kept = λ _. refl }
 
 -- another instruction
-pub another : {size n w : ℕ} {store : List ℤ} {t : ℕ} {c : Context} {k : ℕ} → Ventures size n w store t c store (stoppedBy c k)
+pub another : {size n w : ℕ} {store : List ℤ} {t : ℕ} {c : Context} {k : ℕ} →
+    Ventures size n w store t c store (stoppedBy c k)
 another = record { is = λ ok. absurd (let z : _≡_ {A = ℕ} 0 1 = cc in omega arith); kept = λ _. refl }

@@ -39,13 +39,15 @@ module _ (size n k : ℕ) (s : State) (i : Instruction) (h : Idle (s .tables) k)
   unfolding needs
   stays-needs j cells o d = cases (ltb cells j) (λ e. rw e h) (λ e. rw e d)
 
-  stays-within : (v : ℤ) (limit number : ℕ) (f : ℕ → Outcome) → ((a : ℕ) → Stays (f a)) → Stays (within v limit number f)
+  stays-within : (v : ℤ) (limit number : ℕ) (f : ℕ → Outcome) → ((a : ℕ) → Stays (f a)) →
+      Stays (within v limit number f)
   unfolding within
   stays-within (pos a) limit number f d = cases (ltb a limit) (λ e. rw e (d a)) (λ e. rw e h)
   stays-within (negsuc a) limit number f d = h
 
   -- of an instruction that pops a mutex
-  stays-mutex : (f : ℕ → Outcome) → ((m : ℕ) → Stays (f m)) → Stays (needs 1 (s .regs .cells) (aMutex size n (onward s) (top size (onward s)) f))
+  stays-mutex : (f : ℕ → Outcome) → ((m : ℕ) → Stays (f m)) →
+      Stays (needs 1 (s .regs .cells) (aMutex size n (onward s) (top size (onward s)) f))
   stays-mutex f d = stays-needs 1 (s .regs .cells) _ (stays-within (top size (onward s)) (s .regs .mutexes) 27 f d)
 
   stays-locking : lives (s .tables) (s .regs .thread) ≡ true → (m : ℕ) → Stays (locking size n (onward s) m)

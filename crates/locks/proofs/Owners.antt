@@ -13,14 +13,16 @@ use Rattle.machine.specs.declared.numbers.First.the-variants.{Waiter, Nobody}
 
 module _ (size : ℕ) (before taken given after : Tables) (m : ℕ) where
   -- the first waiter was taken out, got the mutex, and went to the ready tail
-  pub passed-on : (t : Thread) → count (t .0) (before .line) ≡ 1 → first before (atMutex m) ≡ Waiter t → taken ≡ sent before (t .0) active →
+  pub passed-on : (t : Thread) → count (t .0) (before .line) ≡ 1 → first before (atMutex m) ≡ Waiter t →
+      taken ≡ sent before (t .0) active →
       given ≡ owned taken m (t .0) → after ≡ sent given (t .0) ready → after ≡ unlocked size before m
   passed-on t once who went got ran =
       rw (who, ran, got, went, owned-sent before (t .0) active m (t .0))
       (sent-again (owned before m (t .0)) (t .0) active ready (rw (owned-line before m (t .0)) once))
 
 -- nobody waits, and it is free
-pub freed : (size : ℕ) (before taken after : Tables) (m : ℕ) → first before (atMutex m) ≡ Nobody → taken ≡ before → after ≡ owned taken m size → after ≡ unlocked size before m
+pub freed : (size : ℕ) (before taken after : Tables) (m : ℕ) → first before (atMutex m) ≡ Nobody → taken ≡ before →
+    after ≡ owned taken m size → after ≡ unlocked size before m
 freed size before taken after m none stays got = rw (none, got, stays)
 
 module _ (size n : ℕ) (s : State) (m : ℕ) (o : Outcome) where

@@ -98,7 +98,8 @@ module _ (size : ℕ) (tables : Tables) (book : Book) (b : Booked size tables bo
       }
 
   -- a thread ends
-  pub booked-ended : (t : ℕ) → t < length (tables .places) → ((m : ℕ) → m < mutexLimit size → placeOf tables t ≢ atMutex m) →
+  pub booked-ended : (t : ℕ) → t < length (tables .places) →
+      ((m : ℕ) → m < mutexLimit size → placeOf tables t ≢ atMutex m) →
       Booked size (sent tables t ended) (fed book (entry t ends))
   unfolding fed
   booked-ended t below from =
@@ -127,21 +128,24 @@ module _ (size : ℕ) (tables : Tables) (book : Book) (b : Booked size tables bo
   unfolding fed
   added m t = rw (eq-eqb m m refl)
 
-  locks-rest : (m t : ℕ) → (fed book (entry t (locks m)) .living ≡ book .living) × (fed book (entry t (locks m)) .releases ≡ book .releases)
+  locks-rest : (m t : ℕ) → (fed book (entry t (locks m)) .living ≡ book .living)
+      × (fed book (entry t (locks m)) .releases ≡ book .releases)
   unfolding fed
   locks-rest m t = (refl, refl)
 
   longer : (m t : ℕ) → m < mutexLimit size → namesLeft (fed book (entry t (locks m))) m ≡ namesLeft book m ++ t ∷ []
   longer m t h = rw (added m t, locks-rest m t .1, drop-append-le (book .releases m) (book .names m) (t ∷ []) (b .counted m h))
 
-  counted-lock : (m t : ℕ) (k : ℕ) → k < mutexLimit size → fed book (entry t (locks m)) .releases k ≤ length (fed book (entry t (locks m)) .names k)
+  counted-lock : (m t : ℕ) (k : ℕ) → k < mutexLimit size →
+      fed book (entry t (locks m)) .releases k ≤ length (fed book (entry t (locks m)) .names k)
   counted-lock m t k h =
       same-or-not m k
       (λ e. rw (locks-rest m t .1, ← e, added m t, length-append (book .names m) (t ∷ [])) (omega (arith, rw (← e) at (b .counted k h))))
       (λ e. rw (locks-rest m t .1, named m k e t) (b .counted k h))
 
   -- a free mutex is taken: nobody waits for it
-  pub booked-taken : (m t : ℕ) → m < mutexLimit size → m < length (tables .owners) → ownerOf tables m ≡ size → queue tables (atMutex m) ≡ [] → t ≢ size →
+  pub booked-taken : (m t : ℕ) → m < mutexLimit size → m < length (tables .owners) → ownerOf tables m ≡ size →
+      queue tables (atMutex m) ≡ [] → t ≢ size →
       Booked size (owned tables m t) (fed book (entry t (locks m)))
   booked-taken m t h below none empty some =
       record {
@@ -205,7 +209,8 @@ module _ (size : ℕ) (tables : Tables) (book : Book) (b : Booked size tables bo
       }
 
   -- a count goes up by one
-  unlocks-rest : (m t : ℕ) → (fed book (entry t (unlocks m)) .living ≡ book .living) × (fed book (entry t (unlocks m)) .names ≡ book .names)
+  unlocks-rest : (m t : ℕ) → (fed book (entry t (unlocks m)) .living ≡ book .living)
+      × (fed book (entry t (unlocks m)) .names ≡ book .names)
   unfolding fed
   unlocks-rest m t = (refl, refl)
 
@@ -218,7 +223,8 @@ module _ (size : ℕ) (tables : Tables) (book : Book) (b : Booked size tables bo
   unraised m t k h = rw (ne-eqb k m (λ e. h (sym e)))
 
   -- the first name left goes
-  shorter : (m t o : ℕ) (rest : List ℕ) → namesLeft book m ≡ o ∷ rest → namesLeft (fed book (entry t (unlocks m))) m ≡ rest
+  shorter : (m t o : ℕ) (rest : List ℕ) → namesLeft book m ≡ o ∷ rest →
+      namesLeft (fed book (entry t (unlocks m))) m ≡ rest
   shorter m t o rest e =
       rw (raised m t, unlocks-rest m t .1, ← (drop-drop 1 (book .releases m) (book .names m)))
       (ap (drop 1) e)
@@ -233,7 +239,8 @@ module _ (size : ℕ) (tables : Tables) (book : Book) (b : Booked size tables bo
       (λ i. rw (unraised m t k i, unlocks-rest m t .1) (b .counted k h))
 
   -- a mutex that nobody waits for becomes free
-  pub booked-freed : (m t o : ℕ) → m < mutexLimit size → m < length (tables .owners) → ownerOf tables m ≡ o → o ≢ size → queue tables (atMutex m) ≡ [] →
+  pub booked-freed : (m t o : ℕ) → m < mutexLimit size → m < length (tables .owners) → ownerOf tables m ≡ o → o ≢ size →
+      queue tables (atMutex m) ≡ [] →
       Booked size (owned tables m size) (fed book (entry t (unlocks m)))
   booked-freed m t o h below owner some empty =
       let left : namesLeft book m ≡ o ∷ [] = b .ordered m h ∙ rw (held size tables m o owner some, empty) in
@@ -259,7 +266,8 @@ module _ (size : ℕ) (tables : Tables) (book : Book) (b : Booked size tables bo
       }
 
   -- a mutex goes to its first waiter, who becomes ready
-  pub booked-given : (m t o w : ℕ) (rest : List ℕ) → m < mutexLimit size → m < length (tables .owners) → ownerOf tables m ≡ o → o ≢ size →
+  pub booked-given : (m t o w : ℕ) (rest : List ℕ) → m < mutexLimit size → m < length (tables .owners) →
+      ownerOf tables m ≡ o → o ≢ size →
       queue tables (atMutex m) ≡ w ∷ rest → placeOf tables w ≡ atMutex m → w < length (tables .places) → count w (tables .line) ≡ 1 → w ≢ size →
       Booked size (sent (owned tables m w) w ready) (fed book (entry t (unlocks m)))
   booked-given m t o w rest h below owner some waits at inside once real =

@@ -39,7 +39,8 @@ pub record Both (size threads mutexes conditions semaphores run : ℕ) (tables :
   pub booked : Booked size tables book
   pub passing : Passing size tables (book .permits)
 
-module _ {size threads mutexes conditions semaphores run : ℕ} {tables : Tables} {book : Book} (b : Both size threads mutexes conditions semaphores run tables book) where
+module _ {size threads mutexes conditions semaphores run : ℕ} {tables : Tables} {book : Book}
+    (b : Both size threads mutexes conditions semaphores run tables book) where
   pub inside : (t : ℕ) → t < size → t < length (tables .places)
   inside t h = rw (b .kempt .sizes .places) h
 
@@ -51,7 +52,8 @@ module _ {size threads mutexes conditions semaphores run : ℕ} {tables : Tables
   in-line t h = less-or-not t size (λ k. k) (λ k. absurd (omega (arith, b .kempt .tidy .line .no-other t k)))
 
   -- registers are saved of a thread
-  pub saves : (t pc cells fp : ℕ) → t < size → Frame pc cells fp → Both size threads mutexes conditions semaphores run (saved tables t pc cells fp) book
+  pub saves : (t pc cells fp : ℕ) → t < size → Frame pc cells fp →
+      Both size threads mutexes conditions semaphores run (saved tables t pc cells fp) book
   saves t pc cells fp below f =
       let next : Tables = saved tables t pc cells fp in
       let s = b .kempt .sizes in
@@ -110,7 +112,8 @@ module _ {size threads mutexes conditions semaphores run : ℕ} {tables : Tables
   made-at t h p = less-or-not t threads (λ k. k) (λ k. absurd (omega (arith, b .kempt .tidy .placed t h .not-made k)))
 
   -- the running thread leaves for ready, a condition's queue, or another's end
-  pub leaves : (p : ℕ) → run ≢ size → ready ≤ p → Aside size p → Awaited size threads mutexes conditions semaphores tables p →
+  pub leaves : (p : ℕ) → run ≢ size → ready ≤ p → Aside size p →
+      Awaited size threads mutexes conditions semaphores tables p →
       SavedFrame tables run → Both size threads mutexes conditions semaphores size (sent tables run p) book
   leaves p some high aside w f =
       let y = b .kempt .tidy in
@@ -141,7 +144,8 @@ module _ {size threads mutexes conditions semaphores run : ℕ} {tables : Tables
       }
 
   -- the first of the ready queue starts, where none runs
-  pub starts : (t : ℕ) (rest : List ℕ) → run ≡ size → queue tables ready ≡ t ∷ rest → Both size threads mutexes conditions semaphores t (sent tables t active) book
+  pub starts : (t : ℕ) (rest : List ℕ) → run ≡ size → queue tables ready ≡ t ∷ rest →
+      Both size threads mutexes conditions semaphores t (sent tables t active) book
   starts t rest none e =
       let below : t < size = head-below ready t rest e in
       let at : placeOf tables t ≡ ready = first-at tables ready t rest e in
@@ -158,7 +162,8 @@ module _ {size threads mutexes conditions semaphores run : ℕ} {tables : Tables
   idle-at t below high e = let r = b .kempt .tidy .runner (λ none. omega (arith, e, none)) in let active-too : placeOf tables t ≡ active = rw e at (r .1) in omega arith
 
   -- a thread in the queue of a condition, or of a thread's end, becomes ready
-  pub wakes : (t q : ℕ) → t < size → placeOf tables t ≡ q → ready < q → Aside size q → Both size threads mutexes conditions semaphores run (sent tables t ready) book
+  pub wakes : (t q : ℕ) → t < size → placeOf tables t ≡ q → ready < q → Aside size q →
+      Both size threads mutexes conditions semaphores run (sent tables t ready) book
   wakes t q below at high aside =
       record {
         kempt =
@@ -171,7 +176,8 @@ module _ {size threads mutexes conditions semaphores run : ℕ} {tables : Tables
       }
 
   -- a free mutex is taken by the running thread
-  pub takes : (m : ℕ) → run ≢ size → m < mutexes → ownerOf tables m ≡ size → Both size threads mutexes conditions semaphores run (owned tables m run) (fed book (entry run (locks m)))
+  pub takes : (m : ℕ) → run ≢ size → m < mutexes → ownerOf tables m ≡ size →
+      Both size threads mutexes conditions semaphores run (owned tables m run) (fed book (entry run (locks m)))
   takes m some made none =
       let y = b .kempt .tidy in
       let r = y .runner some in
@@ -184,7 +190,8 @@ module _ {size threads mutexes conditions semaphores run : ℕ} {tables : Tables
       }
 
   -- a mutex that is owned becomes free, or goes to its first waiter
-  pub gives : (m t : ℕ) → m < mutexes → ownerOf tables m ≢ size → Both size threads mutexes conditions semaphores run (unlocked size tables m) (fed book (entry t (unlocks m)))
+  pub gives : (m t : ℕ) → m < mutexes → ownerOf tables m ≢ size →
+      Both size threads mutexes conditions semaphores run (unlocked size tables m) (fed book (entry t (unlocks m)))
   gives m t made held = by-queue (queue tables (atMutex m)) refl
     where
       y : Tidy size threads mutexes conditions semaphores run tables
@@ -196,7 +203,8 @@ module _ {size threads mutexes conditions semaphores run : ℕ} {tables : Tables
       stored : m < length (tables .owners)
       stored = rw (b .kempt .sizes .owners) limit
 
-      by-queue : (l : List ℕ) → queue tables (atMutex m) ≡ l → Both size threads mutexes conditions semaphores run (unlocked size tables m) (fed book (entry t (unlocks m)))
+      by-queue : (l : List ℕ) → queue tables (atMutex m) ≡ l →
+          Both size threads mutexes conditions semaphores run (unlocked size tables m) (fed book (entry t (unlocks m)))
       by-queue [] e =
           rw (first-nobody tables (atMutex m) e)
           (record {
@@ -245,7 +253,9 @@ module _ {size threads mutexes conditions semaphores run : ℕ} {tables : Tables
       }
 
   -- the running thread ends, where nobody waits for it and it owns no mutex
-  pub stops : run ≢ size → queue tables (atEnd size run) ≡ [] → ((m : ℕ) → m < mutexLimit size → ownerOf tables m ≢ run) → Both size threads mutexes conditions semaphores size (sent tables run ended) (fed book (entry run event.ends))
+  pub stops : run ≢ size → queue tables (atEnd size run) ≡ [] →
+      ((m : ℕ) → m < mutexLimit size → ownerOf tables m ≢ run) →
+      Both size threads mutexes conditions semaphores size (sent tables run ended) (fed book (entry run event.ends))
   stops some e free =
       let y = b .kempt .tidy in
       let r = y .runner some in
@@ -285,7 +295,8 @@ module _ {size threads mutexes conditions semaphores run : ℕ} {tables : Tables
     limited = omega (arith, b .kempt .tidy .counts .semaphores-fit, made)
 
     -- up on a semaphore that nobody waits for
-    pub raises : (t : ℕ) → queue tables (atSemaphore size k) ≡ [] → Both size threads mutexes conditions semaphores run tables (fed book (entry t (event.ups k)))
+    pub raises : (t : ℕ) → queue tables (atSemaphore size k) ≡ [] →
+        Both size threads mutexes conditions semaphores run tables (fed book (entry t (event.ups k)))
     raises t none =
         rw (fed-ups book t k)
         (record {
@@ -318,7 +329,8 @@ module _ {size threads mutexes conditions semaphores run : ℕ} {tables : Tables
             })
 
     -- down with a permit
-    pub lowers : (t : ℕ) → length (book .permits .downs k) < permitted book k → Both size threads mutexes conditions semaphores run tables (fed book (entry t (event.downs k)))
+    pub lowers : (t : ℕ) → length (book .permits .downs k) < permitted book k →
+        Both size threads mutexes conditions semaphores run tables (fed book (entry t (event.downs k)))
     lowers t room =
         rw (fed-downs book t k)
         (record {
@@ -346,16 +358,19 @@ module _ {size threads mutexes conditions semaphores run : ℕ} {tables : Tables
         })
 
 -- the first of a queue that is no mutex's and no semaphore's becomes ready, if there is one
-pub wakes-first : {size threads mutexes conditions semaphores run : ℕ} {tables : Tables} {book : Book} → Both size threads mutexes conditions semaphores run tables book →
+pub wakes-first : {size threads mutexes conditions semaphores run : ℕ} {tables : Tables} {book : Book} →
+    Both size threads mutexes conditions semaphores run tables book →
     (q : ℕ) → ready < q → Aside size q → Both size threads mutexes conditions semaphores run (wakeFirst tables q) book
 wakes-first {size} {threads} {mutexes} {conditions} {semaphores} {run} {tables} {book} b q high aside = by-queue (queue tables q) refl
   where
-    by-queue : (l : List ℕ) → queue tables q ≡ l → Both size threads mutexes conditions semaphores run (wakeFirst tables q) book
+    by-queue : (l : List ℕ) → queue tables q ≡ l →
+        Both size threads mutexes conditions semaphores run (wakeFirst tables q) book
     by-queue [] e = rw (first-nobody tables q e) b
     by-queue (t ∷ rest) e = rw (first-waiter tables q t rest e) (wakes b t q (head-below b q t rest e) (first-at tables q t rest e) high aside)
 
 -- all of such a queue become ready, and it is empty
-wake-list : {size threads mutexes conditions semaphores run : ℕ} {book : Book} (l : List ℕ) (tables : Tables) → Both size threads mutexes conditions semaphores run tables book →
+wake-list : {size threads mutexes conditions semaphores run : ℕ} {book : Book} (l : List ℕ) (tables : Tables) →
+    Both size threads mutexes conditions semaphores run tables book →
     (q : ℕ) → ready < q → Aside size q → queue tables q ≡ l →
     Both size threads mutexes conditions semaphores run (allReady l tables) book × (queue (allReady l tables) q ≡ [])
 unfolding allReady
@@ -365,7 +380,8 @@ wake-list (t ∷ rest) tables b q high aside e =
     wake-list rest (sent tables t ready) (wakes b t q below (first-at tables q t rest e) high aside) q high aside
     (queue-left tables t ready q rest (inside b t below) (once b t below) (λ k. omega (arith, k)) e)
 
-pub wakes-all : {size threads mutexes conditions semaphores run : ℕ} {tables : Tables} {book : Book} → Both size threads mutexes conditions semaphores run tables book →
+pub wakes-all : {size threads mutexes conditions semaphores run : ℕ} {tables : Tables} {book : Book} →
+    Both size threads mutexes conditions semaphores run tables book →
     (q : ℕ) → ready < q → Aside size q →
     Both size threads mutexes conditions semaphores run (wakeAll tables q) book × (queue (wakeAll tables q) q ≡ [])
 wakes-all {tables = tables} b q high aside = wake-list (queue tables q) tables b q high aside refl

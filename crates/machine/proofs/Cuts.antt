@@ -17,7 +17,8 @@ use Rattle.machine.proofs.Lists.{less-or-not}
 use Rattle.machine.proofs.RunLaws.{call-counts, counts, run-adds}
 
 -- a run that is cut after some of its instructions carries out exactly these
-cut-count : (size : ℕ) (image : List ℕ) (box : Box) (m j : ℕ) → j ≤ countOf (runCall size image m box) → countOf (runCall size image j box) ≡ j
+cut-count : (size : ℕ) (image : List ℕ) (box : Box) (m j : ℕ) → j ≤ countOf (runCall size image m box) →
+    countOf (runCall size image j box) ≡ j
 cut-count size image box m j h = by-meeting (meets size image box)
   where
     by-meeting : Meets size image box → countOf (runCall size image j box) ≡ j
@@ -52,7 +53,8 @@ cut size card (call ∷ rest) all box j h =
     later d sum (cut size card rest (all .1) (callOf size call box .box) d (omega (arith, length-append (callOf size call box .trace) (played size rest (callOf size call box .box) .trace)))))
     (λ here. within here)
   where
-    later : (d : ℕ) → length (callOf size call box .trace) + d ≡ j → Cut size card rest (callOf size call box .box) d → Cut size card (call ∷ rest) box j
+    later : (d : ℕ) → length (callOf size call box .trace) + d ≡ j → Cut size card rest (callOf size call box .box) d →
+        Cut size card (call ∷ rest) box j
     later d sum c =
         record {
           first = call ∷ c .first;

@@ -18,11 +18,13 @@ use Rattle.machine.specs.Step.{entered, executed, onward}
 use Rattle.machine.specs.Tables.{atCondition, ready, wakeAll, wakeFirst}
 
 -- a fault leaves the state stopped
-pub faults : (size n : ℕ) (s : State) (i : Instruction) (k : ℕ) → exec size n (onward s) i ≡ fault k → withRegs s (stopped (s .regs) k) ≡ executed size n s i .state
+pub faults : (size n : ℕ) (s : State) (i : Instruction) (k : ℕ) → exec size n (onward s) i ≡ fault k →
+    withRegs s (stopped (s .regs) k) ≡ executed size n s i .state
 faults size n s i k e = sym (ap (λ (o : Outcome). entered size s (onward s) i o .state) e)
 
 -- an instruction that is carried out leaves its state
-pub carries : (size n : ℕ) (s : State) (i : Instruction) (u : State) → exec size n (onward s) i ≡ done u → u ≡ executed size n s i .state
+pub carries : (size n : ℕ) (s : State) (i : Instruction) (u : State) → exec size n (onward s) i ≡ done u →
+    u ≡ executed size n s i .state
 carries size n s i u e = sym (ap (λ (o : Outcome). entered size s (onward s) i o .state) e)
 
 module _ (size n : ℕ) (s : State) where
@@ -34,7 +36,8 @@ module _ (size n : ℕ) (s : State) where
   unfolding exec
   loadc-is k = refl
 
-  pub load-is : exec size n s instr.load ≡ needs 1 (s .regs .cells) (within (top size s) (shared size) 23 λ a. done (replaced size n s (sharedCell s a)))
+  pub load-is : exec size n s instr.load
+      ≡ needs 1 (s .regs .cells) (within (top size s) (shared size) 23 λ a. done (replaced size n s (sharedCell s a)))
   unfolding exec
   load-is = refl
 
@@ -45,11 +48,13 @@ module _ (size n : ℕ) (s : State) where
   unfolding exec
   store-is = refl
 
-  pub loadr-is : (k : ℤ) → exec size n s (instr.loadr k) ≡ rooms 1 (s .regs .cells) (frameCell size n s k λ i. done (pushed size n s (cell size s i)))
+  pub loadr-is : (k : ℤ) → exec size n s (instr.loadr k)
+      ≡ rooms 1 (s .regs .cells) (frameCell size n s k λ i. done (pushed size n s (cell size s i)))
   unfolding exec
   loadr-is k = refl
 
-  pub storer-is : (k : ℤ) → exec size n s (instr.storer k) ≡ needs 1 (s .regs .cells) (frameCell size n s k λ i. done (written size s i (top size s)))
+  pub storer-is : (k : ℤ) → exec size n s (instr.storer k)
+      ≡ needs 1 (s .regs .cells) (frameCell size n s k λ i. done (written size s i (top size s)))
   unfolding exec
   storer-is k = refl
 
@@ -64,7 +69,8 @@ module _ (size n : ℕ) (s : State) where
   unfolding exec
   pop-is = refl
 
-  pub dup-is : exec size n s instr.dup ≡ needs 1 (s .regs .cells) (rooms 1 (s .regs .cells) (done (pushed size n s (top size s))))
+  pub dup-is : exec size n s instr.dup
+      ≡ needs 1 (s .regs .cells) (rooms 1 (s .regs .cells) (done (pushed size n s (top size s))))
   unfolding exec
   dup-is = refl
 
@@ -88,7 +94,8 @@ module _ (size n : ℕ) (s : State) where
   unfolding exec
   mod-is = refl
 
-  pub neg-is : exec size n s instr.neg ≡ needs 1 (s .regs .cells) (fits (negℤ (top size s)) λ v. done (replaced size n s v))
+  pub neg-is : exec size n s instr.neg
+      ≡ needs 1 (s .regs .cells) (fits (negℤ (top size s)) λ v. done (replaced size n s v))
   unfolding exec
   neg-is = refl
 
@@ -108,7 +115,8 @@ module _ (size n : ℕ) (s : State) where
   unfolding exec
   leq-is = refl
 
-  pub not-is : exec size n s instr.not ≡ needs 1 (s .regs .cells) (done (replaced size n s (truth (eqZ (top size s) (pos 0)))))
+  pub not-is : exec size n s instr.not
+      ≡ needs 1 (s .regs .cells) (done (replaced size n s (truth (eqZ (top size s) (pos 0)))))
   unfolding exec
   not-is = refl
 
@@ -158,7 +166,8 @@ module _ (size n : ℕ) (s : State) where
   unfolding exec
   join-is = refl
 
-  pub finalize-is : exec size n s instr.finalize ≡ needs 1 (s .regs .cells) (aThread size n s (top size s) (finalizing size n s))
+  pub finalize-is : exec size n s instr.finalize
+      ≡ needs 1 (s .regs .cells) (aThread size n s (top size s) (finalizing size n s))
   unfolding exec
   finalize-is = refl
 
@@ -172,7 +181,8 @@ module _ (size n : ℕ) (s : State) where
   unfolding exec
   lock-is = refl
 
-  pub unlock-is : exec size n s instr.unlock ≡ needs 1 (s .regs .cells) (aMutex size n s (top size s) (unlocking size n s))
+  pub unlock-is : exec size n s instr.unlock
+      ≡ needs 1 (s .regs .cells) (aMutex size n s (top size s) (unlocking size n s))
   unfolding exec
   unlock-is = refl
 
@@ -182,7 +192,8 @@ module _ (size n : ℕ) (s : State) where
   unfolding exec
   newcond-is = refl
 
-  pub wait-is : exec size n s instr.wait ≡ needs 2 (s .regs .cells) (aCondition size n s (top size s) λ c. aMutex size n s (below size s) λ m. waiting size n s c m)
+  pub wait-is : exec size n s instr.wait
+      ≡ needs 2 (s .regs .cells) (aCondition size n s (top size s) λ c. aMutex size n s (below size s) λ m. waiting size n s c m)
   unfolding exec
   wait-is = refl
 
@@ -206,6 +217,7 @@ module _ (size n : ℕ) (s : State) where
   unfolding exec
   up-is = refl
 
-  pub down-is : exec size n s instr.down ≡ needs 1 (s .regs .cells) (aSemaphore size n s (top size s) (lowering size n s))
+  pub down-is : exec size n s instr.down
+      ≡ needs 1 (s .regs .cells) (aSemaphore size n s (top size s) (lowering size n s))
   unfolding exec
   down-is = refl

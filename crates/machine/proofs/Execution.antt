@@ -42,7 +42,8 @@ module _ (size n : ℕ) (s : State) (book : Book) (y : Runs size s book) (short 
   abbrev local : List ℤ → ℕ → ℕ → ℕ → ℕ → State
   local store pc cells fp free = withRegs (withStore s store) (withFree (withFp (withCells (withPc (s .regs) pc) cells) fp) free)
 
-  stays : (store : List ℤ) (pc cells fp free : ℕ) → length store ≡ length (s .store) → Frame pc cells fp → 1 ≤ free → free ≤ shared size → Landed size (local store pc cells fp free) book
+  stays : (store : List ℤ) (pc cells fp free : ℕ) → length store ≡ length (s .store) → Frame pc cells fp → 1 ≤ free →
+      free ≤ shared size → Landed size (local store pc cells fp free) book
   stays store pc cells fp free same f least most =
       active-landed size _ book
       (record {
@@ -58,7 +59,8 @@ module _ (size n : ℕ) (s : State) (book : Book) (y : Runs size s book) (short 
       (y .some)
 
   -- the same with the next free cell as it was
-  keeps : (store : List ℤ) (pc cells fp : ℕ) → length store ≡ length (s .store) → Frame pc cells fp → Landed size (local store pc cells fp (s .regs .free)) book
+  keeps : (store : List ℤ) (pc cells fp : ℕ) → length store ≡ length (s .store) → Frame pc cells fp →
+      Landed size (local store pc cells fp (s .regs .free)) book
   keeps store pc cells fp same f = stays store pc cells fp (s .regs .free) same f (y .steady .free-least) (y .steady .free-most)
 
   -- another number of cells
@@ -72,7 +74,8 @@ module _ (size n : ℕ) (s : State) (book : Book) (y : Runs size s book) (short 
   one-set a v = length-set (s .store) a v
 
   -- a push, a pop, a new top, and a new top after a pop
-  push : (v : ℤ) → s .regs .cells + 1 ≤ 128 → Landed size (local (set (s .store) (stackAt size (s .regs .thread) (s .regs .cells)) v) (s .regs .pc) (s .regs .cells + 1) (s .regs .fp) (s .regs .free)) book
+  push : (v : ℤ) → s .regs .cells + 1 ≤ 128 →
+      Landed size (local (set (s .store) (stackAt size (s .regs .thread) (s .regs .cells)) v) (s .regs .pc) (s .regs .cells + 1) (s .regs .fp) (s .regs .free)) book
   push v h = keeps _ _ _ _ (one-set _ v) (resized _ h)
 
   pop : (k : ℕ) → Landed size (local (s .store) (s .regs .pc) (s .regs .cells - k) (s .regs .fp) (s .regs .free)) book
@@ -248,7 +251,9 @@ module _ (size n : ℕ) (s : State) (book : Book) (y : Runs size s book) (short 
       }
 
   -- 31, or the thread's end
-  ends-ending : (P : State → Type 0) (v : ℤ) → (Landed size (ends size s v) (fed book (entry (s .regs .thread) event.ends)) → P (ends size s v)) → Ends P (ending size s v)
+  ends-ending : (P : State → Type 0) (v : ℤ) →
+      (Landed size (ends size s v) (fed book (entry (s .regs .thread) event.ends)) → P (ends size s v)) →
+      Ends P (ending size s v)
   ends-ending P v f = ends-cond P (ownsAny size (s .tables) (s .regs .thread)) _ _ (λ e. refl) (λ e. f (ends-right size s book y e v))
 
   exec-exit : Done instr.exit
@@ -309,7 +314,8 @@ module _ (size n : ℕ) (s : State) (book : Book) (y : Runs size s book) (short 
       (λ t e made. ends-cond _ (eqb (placeOf (s .tables) t) ended) _ _ (λ k. poke _ _) (λ k. refl)))
 
   -- other tables, a book that was fed, and other counts, with the thread still running
-  changed : (store : List ℤ) (tables : Tables) (cells threads mutexes conditions : ℕ) (book′ : Book) → book′ .permits ≡ book .permits →
+  changed : (store : List ℤ) (tables : Tables) (cells threads mutexes conditions : ℕ) (book′ : Book) →
+      book′ .permits ≡ book .permits →
       length store ≡ length (s .store) → cells ≤ 128 → Both size threads mutexes conditions (s .regs .semaphores) (s .regs .thread) tables book′ →
       Landed size (record { store = store; tables = tables; values = s .values; regs = withMade (withCells (s .regs) cells) threads mutexes conditions }) book′
   changed store tables cells threads mutexes conditions book′ permits same h b =
@@ -327,7 +333,8 @@ module _ (size n : ℕ) (s : State) (book : Book) (y : Runs size s book) (short 
       (y .some)
 
   -- the counts of mutexes and conditions grow
-  grown : (mutexes conditions : ℕ) → s .regs .mutexes ≤ mutexes → mutexes ≤ mutexLimit size → s .regs .conditions ≤ conditions → conditions ≤ conditionLimit size →
+  grown : (mutexes conditions : ℕ) → s .regs .mutexes ≤ mutexes → mutexes ≤ mutexLimit size →
+      s .regs .conditions ≤ conditions → conditions ≤ conditionLimit size →
       Both size (s .regs .threads) mutexes conditions (s .regs .semaphores) (s .regs .thread) (s .tables) book
   grown mutexes conditions a b c d =
       let fit = y .steady .both .kempt .tidy .counts in
@@ -401,7 +408,8 @@ module _ (size n : ℕ) (s : State) (book : Book) (y : Runs size s book) (short 
       (λ k. rw e (lock-blocked size _ book popped-runs m made (eqb-false _ _ k)))))
 
   -- 28 is not given: the mutex is owned by the running thread
-  pub ends-owns : (P : State → Type 0) (m : ℕ) (o : Outcome) → (ownerOf (s .tables) m ≡ s .regs .thread → Ends P o) → Ends P (owns size n s m o)
+  pub ends-owns : (P : State → Type 0) (m : ℕ) (o : Outcome) → (ownerOf (s .tables) m ≡ s .regs .thread → Ends P o) →
+      Ends P (owns size n s m o)
   unfolding owns
   ends-owns P m o f = ends-cond P _ o (fault 28) (λ e. f (eqb-true _ _ e)) (λ e. refl)
 
@@ -452,7 +460,8 @@ module _ (size n : ℕ) (s : State) (book : Book) (y : Runs size s book) (short 
   -- ---- semaphores
 
   -- other tables, values, semaphores made and a book that was fed, with the thread still running
-  recounted : (store : List ℤ) (tables : Tables) (values : List ℤ) (cells semaphores : ℕ) (book′ : Book) → length store ≡ length (s .store) →
+  recounted : (store : List ℤ) (tables : Tables) (values : List ℤ) (cells semaphores : ℕ) (book′ : Book) →
+      length store ≡ length (s .store) →
       length values ≡ length (s .values) → cells ≤ 128 → Counted size values semaphores (book′ .permits) →
       Both size (s .regs .threads) (s .regs .mutexes) (s .regs .conditions) semaphores (s .regs .thread) tables book′ →
       Landed size (record { store = store; tables = tables; values = values; regs = withSemaphores (withCells (s .regs) cells) semaphores }) book′

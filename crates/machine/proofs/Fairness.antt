@@ -19,14 +19,16 @@ use Rattle.machine.proofs.Queues.{count-queue, count-queued, first-at}
 use Rattle.machine.proofs.Steady.{Right}
 
 -- a thread is in none of the queues of some places if its own place is none of them
-waits-none : (tables : Tables) (t from k : ℕ) → ((q : ℕ) → from ≤ q → q < from + k → placeOf tables t ≢ q) → waitsIn tables t from k ≡ 0
+waits-none : (tables : Tables) (t from k : ℕ) → ((q : ℕ) → from ≤ q → q < from + k → placeOf tables t ≢ q) →
+    waitsIn tables t from k ≡ 0
 unfolding waitsIn
 waits-none tables t from zero h = refl
 waits-none tables t from (suc k) h =
     rw (count-queue tables from t (h from (omega arith) (omega arith)), waits-none tables t (suc from) k (λ q low high. h q (omega arith) (omega arith)))
 
 -- and in exactly one if it is one of them
-waits-one : (tables : Tables) (t from k : ℕ) → count t (tables .line) ≡ 1 → from ≤ placeOf tables t → placeOf tables t < from + k → waitsIn tables t from k ≡ 1
+waits-one : (tables : Tables) (t from k : ℕ) → count t (tables .line) ≡ 1 → from ≤ placeOf tables t →
+    placeOf tables t < from + k → waitsIn tables t from k ≡ 1
 unfolding waitsIn
 waits-one tables t from zero once low high = absurd (omega arith)
 waits-one tables t from (suc k) once low high =

@@ -65,12 +65,14 @@ level size s book r k made =
     (sym (short (p .starting k + p .ups k) (length (p .downs k))))
 
 -- .. which is at most the number of threads
-pub few-wait : (size : ℕ) (s : State) (book : Book) → Right size s book → (k : ℕ) → k < s .regs .semaphores → shortfall (semaphoreCount size (s .values) k) ≤ size
+pub few-wait : (size : ℕ) (s : State) (book : Book) → Right size s book → (k : ℕ) → k < s .regs .semaphores →
+    shortfall (semaphoreCount size (s .values) k) ≤ size
 few-wait size s book r k made =
     rw (← (level size s book r k made)) (omega (arith, queue-short (s .tables) (atSemaphore size k), r .steady .both .kempt .sizes .line))
 
 -- the plain reading of a right machine
-pub right-formed : (size : ℕ) (s : State) (book : Book) → Right size s book → Formed size (s .regs) (s .tables) (s .values)
+pub right-formed : (size : ℕ) (s : State) (book : Book) → Right size s book →
+    Formed size (s .regs) (s .tables) (s .values)
 right-formed size s book r =
     record {
       tidy = r .steady .both .kempt .tidy;
@@ -103,7 +105,8 @@ held size s book r =
 pub held-store : (size : ℕ) (box : Box) (book : Book) → Held size box book → storeFits size (box .store) ≡ true
 held-store size box book h = eq-eqb _ _ (h .right .steady .stored)
 
-pub held-formed : (size : ℕ) (box : Box) (book : Book) → Held size box book → wellFormed size (box .regs) (box .tables) (box .values) ≡ true
+pub held-formed : (size : ℕ) (box : Box) (book : Book) → Held size box book →
+    wellFormed size (box .regs) (box .tables) (box .values) ≡ true
 unfolding wellFormed
 held-formed size box book h =
     true-and (tablesFit size (box .tables) (box .values)) _
@@ -127,7 +130,8 @@ answers size s number place e = by-state (eqb (s .regs .state) running) (eqb (s 
     by-state false false false k = let other : halted ≡ refusedState = ap (λ (r : Report). r .state) k in omega arith
 
 -- a refused image changes nothing at all
-pub refused-call : (size : ℕ) (call : Call) (box : Box) (number place : ℕ) → readOf (imageOf call) ≡ result.refuses number place →
+pub refused-call : (size : ℕ) (call : Call) (box : Box) (number place : ℕ) →
+    readOf (imageOf call) ≡ result.refuses number place →
     callOf size call box ≡ refused number place box
 unfolding stepCall runCall
 refused-call size (stepOn image) box number place e = rw e
@@ -139,12 +143,14 @@ pub record Went (size : ℕ) (book : Book) (called : Called) : Type 0 where
   pub lawful : Lawful book (called .trace)
   pub answer : (number place : ℕ) → called .answer ≢ refusedBy number place
 
-went : (size : ℕ) (box : Box) (book : Book) (ran : Ran) → Held size box book → After size book ran → Went size book (accepted size box ran)
+went : (size : ℕ) (box : Box) (book : Book) (ran : Ran) → Held size box book → After size book ran →
+    Went size book (accepted size box ran)
 went size box book ran h r =
     rw (goes-on size box book ran h)
     (record { box = held size (ran .state) (bookOf book (ran .trace)) (r .right); lawful = r .lawful; answer = answers size (ran .state) })
 
-pub card-call : (size : ℕ) (call : Call) (box : Box) (book : Book) (cells : ℕ) → readOf (imageOf call) ≡ result.gives cells → Held size box book →
+pub card-call : (size : ℕ) (call : Call) (box : Box) (book : Book) (cells : ℕ) →
+    readOf (imageOf call) ≡ result.gives cells → Held size box book →
     Went size book (callOf size call box)
 unfolding stepCall runCall
 card-call size (stepOn image) box book cells e h =
@@ -154,7 +160,8 @@ card-call size (runOn image m) box book cells e h =
 
 -- ---- setting up
 
-pub set-up : (size : ℕ) (image : List ℕ) (cells : ℕ) (lent : Box) → 1 ≤ size → readOf image ≡ result.gives cells → cells ≤ shared size →
+pub set-up : (size : ℕ) (image : List ℕ) (cells : ℕ) (lent : Box) → 1 ≤ size → readOf image ≡ result.gives cells →
+    cells ≤ shared size →
     length (lent .store) ≡ storeSize size → length (lent .tables) ≡ tablesSize size → length (lent .values) ≡ valuesSize size →
     setUp size image lent .box ≡ boxOf (start size cells)
 unfolding setUp

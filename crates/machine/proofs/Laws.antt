@@ -121,7 +121,8 @@ abbrev pub stepsOf : Call → ℕ
 stepsOf (stepOn image) = 1
 stepsOf (runOn image m) = m
 
-pub call-run : (size : ℕ) (call : Call) (box : Box) → callOf size call box ≡ runCall size (imageOf call) (stepsOf call) box
+pub call-run : (size : ℕ) (call : Call) (box : Box) →
+    callOf size call box ≡ runCall size (imageOf call) (stepsOf call) box
 call-run size (stepOn image) box = step-is-run size image box
 call-run size (runOn image m) box = refl
 
@@ -162,7 +163,8 @@ zeroed box = record { store = box .store; tables = box .tables; values = box .va
 no-refusal : (number place : ℕ) → inState running ≢ refusedBy number place
 no-refusal number place e = let other : running ≡ refusedState = ap (λ (r : Report). r .state) e in omega arith
 
-set-up-keeps : (size : ℕ) (r : Result) (box : Box) (number place : ℕ) → setUpOf size r box .answer ≡ refusedBy number place →
+set-up-keeps : (size : ℕ) (r : Result) (box : Box) (number place : ℕ) →
+    setUpOf size r box .answer ≡ refusedBy number place →
     (setUpOf size r box .box ≡ zeroed box) × (setUpOf size r box .trace ≡ [])
 set-up-keeps size (result.refuses a b) box number place e = (refl, refl)
 set-up-keeps size (result.gives cells) box number place e =

@@ -24,7 +24,8 @@ module _ {size threads mutexes conditions semaphores : ℕ} {tables : Tables} wh
         for-end = λ u e. absurd (omega (arith, e));
       }
 
-  pub awaited-mutex : (m : ℕ) → m < mutexLimit size → m < mutexes → ownerOf tables m ≢ size → Awaited size threads mutexes conditions semaphores tables (atMutex m)
+  pub awaited-mutex : (m : ℕ) → m < mutexLimit size → m < mutexes → ownerOf tables m ≢ size →
+      Awaited size threads mutexes conditions semaphores tables (atMutex m)
   awaited-mutex m limit made held =
       record {
         for-mutex = λ k h e. let same : m ≡ k = omega (arith, e) in (rw (← same) made, rw (← same) held);
@@ -33,7 +34,8 @@ module _ {size threads mutexes conditions semaphores : ℕ} {tables : Tables} wh
         for-end = λ u e. absurd (omega (arith, e, limit));
       }
 
-  pub awaited-condition : (c : ℕ) → c < conditionLimit size → c < conditions → Awaited size threads mutexes conditions semaphores tables (atCondition size c)
+  pub awaited-condition : (c : ℕ) → c < conditionLimit size → c < conditions →
+      Awaited size threads mutexes conditions semaphores tables (atCondition size c)
   awaited-condition c limit made =
       record {
         for-mutex = λ m h e. absurd (omega (arith, e));
@@ -42,7 +44,8 @@ module _ {size threads mutexes conditions semaphores : ℕ} {tables : Tables} wh
         for-end = λ u e. absurd (omega (arith, e, limit));
       }
 
-  pub awaited-semaphore : (k : ℕ) → k < semaphoreLimit size → k < semaphores → Awaited size threads mutexes conditions semaphores tables (atSemaphore size k)
+  pub awaited-semaphore : (k : ℕ) → k < semaphoreLimit size → k < semaphores →
+      Awaited size threads mutexes conditions semaphores tables (atSemaphore size k)
   awaited-semaphore k limit made =
       record {
         for-mutex = λ m h e. absurd (omega (arith, e));
@@ -51,7 +54,8 @@ module _ {size threads mutexes conditions semaphores : ℕ} {tables : Tables} wh
         for-end = λ u e. absurd (omega (arith, e, limit));
       }
 
-  pub awaited-end : (t : ℕ) → t < threads → placeOf tables t ≢ ended → Awaited size threads mutexes conditions semaphores tables (atEnd size t)
+  pub awaited-end : (t : ℕ) → t < threads → placeOf tables t ≢ ended →
+      Awaited size threads mutexes conditions semaphores tables (atEnd size t)
   awaited-end t made lives =
       record {
         for-mutex = λ m h e. absurd (omega (arith, e));
@@ -62,7 +66,8 @@ module _ {size threads mutexes conditions semaphores : ℕ} {tables : Tables} wh
 
   module _ {p : ℕ} (w : Awaited size threads mutexes conditions semaphores tables p) where
     -- more is made
-    pub awaited-more : (threads′ mutexes′ conditions′ semaphores′ : ℕ) → threads ≤ threads′ → mutexes ≤ mutexes′ → conditions ≤ conditions′ → semaphores ≤ semaphores′ →
+    pub awaited-more : (threads′ mutexes′ conditions′ semaphores′ : ℕ) → threads ≤ threads′ → mutexes ≤ mutexes′ →
+        conditions ≤ conditions′ → semaphores ≤ semaphores′ →
         Awaited size threads′ mutexes′ conditions′ semaphores′ tables p
     awaited-more threads′ mutexes′ conditions′ semaphores′ more more-m more-c more-s =
         record {
@@ -73,7 +78,8 @@ module _ {size threads mutexes conditions semaphores : ℕ} {tables : Tables} wh
         }
 
     -- a thread goes elsewhere, and doesn't end where its end is waited for
-    pub awaited-sent : (t q : ℕ) → t < length (tables .places) → (q ≡ ended → p ≢ atEnd size t) → Awaited size threads mutexes conditions semaphores (sent tables t q) p
+    pub awaited-sent : (t q : ℕ) → t < length (tables .places) → (q ≡ ended → p ≢ atEnd size t) →
+        Awaited size threads mutexes conditions semaphores (sent tables t q) p
     awaited-sent t q below lives =
         record {
           for-mutex = λ m h e. rw (sent-owner tables t q m) (w .for-mutex m h e);
@@ -90,12 +96,14 @@ module _ {size threads mutexes conditions semaphores : ℕ} {tables : Tables} wh
         }
 
     -- tables with the same places and owners
-    pub awaited-same : (next : Tables) → next .places ≡ tables .places → next .owners ≡ tables .owners → Awaited size threads mutexes conditions semaphores next p
+    pub awaited-same : (next : Tables) → next .places ≡ tables .places → next .owners ≡ tables .owners →
+        Awaited size threads mutexes conditions semaphores next p
     awaited-same next places owners =
         record { for-mutex = rw owners (w .for-mutex); for-condition = w .for-condition; for-semaphore = w .for-semaphore; for-end = rw places (w .for-end) }
 
     -- a mutex gets another owner, or none where nobody waits for it
-    pub awaited-owned : (m o : ℕ) → m < length (tables .owners) → (o ≡ size → p ≢ atMutex m) → Awaited size threads mutexes conditions semaphores (owned tables m o) p
+    pub awaited-owned : (m o : ℕ) → m < length (tables .owners) → (o ≡ size → p ≢ atMutex m) →
+        Awaited size threads mutexes conditions semaphores (owned tables m o) p
     awaited-owned m o below wanted =
         record {
           for-mutex =
@@ -136,12 +144,14 @@ pub record May (size threads mutexes conditions semaphores : ℕ) (tables : Tabl
   pub somewhere : 0 < p
   pub awaited : Awaited size threads mutexes conditions semaphores tables p
   -- it ends only where nobody waits for that and it owns nothing
-  pub to-ended : p ≡ ended → ((s : ℕ) → s < size → placeOf tables s ≢ atEnd size t) × ((m : ℕ) → m < mutexLimit size → ownerOf tables m ≢ t)
+  pub to-ended : p ≡ ended → ((s : ℕ) → s < size → placeOf tables s ≢ atEnd size t)
+      × ((m : ℕ) → m < mutexLimit size → ownerOf tables m ≢ t)
   pub has-frame : ready ≤ p → SavedFrame tables t
 
 module _ {size threads mutexes conditions semaphores : ℕ} {tables : Tables} {t : ℕ} where
   -- to the ready queue or another, its registers saved
-  pub may-wait : {p : ℕ} → ready ≤ p → Awaited size threads mutexes conditions semaphores tables p → SavedFrame tables t → May size threads mutexes conditions semaphores tables t p
+  pub may-wait : {p : ℕ} → ready ≤ p → Awaited size threads mutexes conditions semaphores tables p →
+      SavedFrame tables t → May size threads mutexes conditions semaphores tables t p
   may-wait high w f = record { somewhere = omega arith; awaited = w; to-ended = λ e. absurd (omega (arith, e)); has-frame = λ h. f }
 
   pub may-ready : SavedFrame tables t → May size threads mutexes conditions semaphores tables t ready
@@ -150,7 +160,8 @@ module _ {size threads mutexes conditions semaphores : ℕ} {tables : Tables} {t
   pub may-run : May size threads mutexes conditions semaphores tables t active
   may-run = record { somewhere = omega arith; awaited = awaited-low active (omega arith); to-ended = λ e. absurd (omega (arith, e)); has-frame = λ h. absurd (omega (arith, h)) }
 
-  pub may-end : ((s : ℕ) → s < size → placeOf tables s ≢ atEnd size t) → ((m : ℕ) → m < mutexLimit size → ownerOf tables m ≢ t) →
+  pub may-end : ((s : ℕ) → s < size → placeOf tables s ≢ atEnd size t) →
+      ((m : ℕ) → m < mutexLimit size → ownerOf tables m ≢ t) →
       May size threads mutexes conditions semaphores tables t ended
   may-end unawaited free = record { somewhere = omega arith; awaited = awaited-low ended (omega arith); to-ended = λ e. (unawaited, free); has-frame = λ h. absurd (omega (arith, h)) }
 
@@ -166,8 +177,10 @@ pub record Kempt (size threads mutexes conditions semaphores run : ℕ) (tables 
   pub sizes : Sizes size tables
   pub tidy : Tidy size threads mutexes conditions semaphores run tables
 
-module _ {size threads mutexes conditions semaphores run : ℕ} {tables : Tables} (k : Kempt size threads mutexes conditions semaphores run tables) where
-  module _ (t p threads′ run′ : ℕ) (made : Makes size threads t threads′) (turn : Turn size run t p run′) (may : May size threads mutexes conditions semaphores tables t p) where
+module _ {size threads mutexes conditions semaphores run : ℕ} {tables : Tables}
+    (k : Kempt size threads mutexes conditions semaphores run tables) where
+  module _ (t p threads′ run′ : ℕ) (made : Makes size threads t threads′) (turn : Turn size run t p run′)
+      (may : May size threads mutexes conditions semaphores tables t p) where
     inside : t < length (tables .places)
     inside = rw (k .sizes .places) (omega (arith, made .is-made, made .most))
 
@@ -178,7 +191,8 @@ module _ {size threads mutexes conditions semaphores run : ℕ} {tables : Tables
     there = sent-there tables t p
 
     -- what is waited for at a place, and what is saved of a thread, is so afterwards
-    waits : {q : ℕ} → Awaited size threads mutexes conditions semaphores tables q → (p ≡ ended → q ≢ atEnd size t) → Awaited size threads′ mutexes conditions semaphores (sent tables t p) q
+    waits : {q : ℕ} → Awaited size threads mutexes conditions semaphores tables q → (p ≡ ended → q ≢ atEnd size t) →
+        Awaited size threads′ mutexes conditions semaphores (sent tables t p) q
     waits w lives = awaited-sent (awaited-more w threads′ mutexes conditions semaphores (made .more) (omega arith) (omega arith) (omega arith)) t p inside lives
 
     frames : (s : ℕ) → SavedFrame tables s → SavedFrame (sent tables t p) s
@@ -249,11 +263,14 @@ module _ {size threads mutexes conditions semaphores run : ℕ} {tables : Tables
         }
 
   -- a thread that was made goes to a place
-  pub goes : (t p run′ : ℕ) → t < threads → Turn size run t p run′ → May size threads mutexes conditions semaphores tables t p → Kempt size threads mutexes conditions semaphores run′ (sent tables t p)
+  pub goes : (t p run′ : ℕ) → t < threads → Turn size run t p run′ →
+      May size threads mutexes conditions semaphores tables t p →
+      Kempt size threads mutexes conditions semaphores run′ (sent tables t p)
   goes t p run′ made = moved t p threads run′ (record { more = omega arith; most = k .tidy .counts .threads-fit; only-new = λ s h away. h; is-made = made })
 
 -- a mutex that was made gets a live thread as its owner; or none, where nobody waits for it
-pub owner-set : {size threads mutexes conditions semaphores run : ℕ} {tables : Tables} → Kempt size threads mutexes conditions semaphores run tables →
+pub owner-set : {size threads mutexes conditions semaphores run : ℕ} {tables : Tables} →
+    Kempt size threads mutexes conditions semaphores run tables →
     (m o : ℕ) → m < mutexes → (o ≢ size → (o < threads) × (ended < placeOf tables o)) → (o ≡ size → (t : ℕ) → t < size → placeOf tables t ≢ atMutex m) →
     Kempt size threads mutexes conditions semaphores run (owned tables m o)
 owner-set {size} {threads} {mutexes} {conditions} {semaphores} {run} {tables} k m o made real unwanted =
@@ -300,7 +317,8 @@ owner-set {size} {threads} {mutexes} {conditions} {semaphores} {run} {tables} k 
     }
 
 -- more mutexes, conditions or semaphores were made
-pub counts-grow : {size threads mutexes conditions semaphores run : ℕ} {tables : Tables} → Kempt size threads mutexes conditions semaphores run tables →
+pub counts-grow : {size threads mutexes conditions semaphores run : ℕ} {tables : Tables} →
+    Kempt size threads mutexes conditions semaphores run tables →
     (mutexes′ conditions′ semaphores′ : ℕ) → mutexes ≤ mutexes′ → conditions ≤ conditions′ → semaphores ≤ semaphores′ →
     Counts size threads mutexes′ conditions′ semaphores′ → Kempt size threads mutexes′ conditions′ semaphores′ run tables
 counts-grow {threads = threads} k mutexes′ conditions′ semaphores′ more more-c more-s counts =

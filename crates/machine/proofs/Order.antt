@@ -26,7 +26,8 @@ use Rattle.machine.proofs.Traces.{executed, named, no-sooner, nobody-sk
 
 -- the first left is the owner's
 module _ (size : ℕ) (box : Box) (book : Book) (fair : Fair size (stateOf size box) book) where
-  first-owns : (m k : ℕ) → m < mutexLimit size → FirstLeft book m k → holderOf size (stateOf size box .tables) m ≡ getD (book .names m) k 0 ∷ []
+  first-owns : (m k : ℕ) → m < mutexLimit size → FirstLeft book m k →
+      holderOf size (stateOf size box .tables) m ≡ getD (book .names m) k 0 ∷ []
   first-owns m k below f =
       let tables : Tables = stateOf size box .tables in
       let order : getD (book .names m) k 0 ∷ drop (suc k) (book .names m) ≡ holderOf size tables m ++ queue tables (atMutex m) =
@@ -42,7 +43,8 @@ module _ (size : ℕ) (box : Box) (book : Book) (fair : Fair size (stateOf size 
       order ∙ ap (λ (l : List ℕ). l ++ queue tables (atMutex m)) here in
       here ∙ ap (λ (t : ℕ). t ∷ []) (cc line))
 
-  owner-first : (m : ℕ) → m < mutexLimit size → ownerOf (stateOf size box .tables) m ≢ size → FirstLeft book m (book .releases m)
+  owner-first : (m : ℕ) → m < mutexLimit size → ownerOf (stateOf size box .tables) m ≢ size →
+      FirstLeft book m (book .releases m)
   owner-first m below e =
       let tables : Tables = stateOf size box .tables in
       let line : namesLeft book m ≡ ownerOf tables m ∷ queue tables (atMutex m) =
@@ -53,20 +55,23 @@ module _ (size : ℕ) (box : Box) (book : Book) (fair : Fair size (stateOf size 
   owners = record { first-owns = first-owns; owner-first = owner-first }
 
 -- a law of every point of a trace that holds up to its end
-pub to-the-end : (trace : List Entry) (P : Book → Type 0) → ((j : ℕ) → j ≤ length trace → P (bookAt trace j)) → (j : ℕ) → P (bookAt trace j)
+pub to-the-end : (trace : List Entry) (P : Book → Type 0) → ((j : ℕ) → j ≤ length trace → P (bookAt trace j)) →
+    (j : ℕ) → P (bookAt trace j)
 to-the-end trace P h j =
     less-or-not j (length trace)
     (λ k. h j (omega arith))
     (λ k. rw (take-all j trace k, ← take-length trace) (h (length trace) (omega arith)))
 
 -- each release of a trace is rightful, by the book at its point
-lawful-at : (trace : List Entry) (book : Book) → Lawful book trace → (j : ℕ) → j < length trace → Rightful (bookOf book (take j trace)) (entryAt trace j)
+lawful-at : (trace : List Entry) (book : Book) → Lawful book trace → (j : ℕ) → j < length trace →
+    Rightful (bookOf book (take j trace)) (entryAt trace j)
 unfolding Lawful bookOf
 lawful-at [] book l j h = absurd (omega arith)
 lawful-at (e ∷ rest) book l zero h = l .0
 lawful-at (e ∷ rest) book l (suc j) h = lawful-at rest (fed book e) (l .1) j (omega arith)
 
-module _ (size : ℕ) (some : 1 ≤ size) (card : List ℕ) (cells : ℕ) (lent : Box) (calls : List Call) (e : readOf card ≡ result.gives cells)
+module _ (size : ℕ) (some : 1 ≤ size) (card : List ℕ) (cells : ℕ) (lent : Box) (calls : List Call)
+    (e : readOf card ≡ result.gives cells)
     (fits : cells ≤ shared size) (store : length (lent .store) ≡ storeSize size) (tables : length (lent .tables) ≡ tablesSize size)
     (values : length (lent .values) ≡ valuesSize size) (all : Each (Fitting card) calls) where
   trace : List Entry

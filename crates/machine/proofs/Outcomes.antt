@@ -33,7 +33,8 @@ module _ (P : State → Type 0) where
   unfolding rooms
   ends-rooms k cells o f = ends-cond (ltb 128 (cells + k)) (fault 22) o (λ e. refl) (λ e. f (ltb-false _ _ e))
 
-  pub ends-within : (z : ℤ) (limit number : ℕ) (f : ℕ → Outcome) → isFault number ≡ true → ((a : ℕ) → z ≡ pos a → a < limit → Ends P (f a)) →
+  pub ends-within : (z : ℤ) (limit number : ℕ) (f : ℕ → Outcome) → isFault number ≡ true →
+      ((a : ℕ) → z ≡ pos a → a < limit → Ends P (f a)) →
       Ends P (within z limit number f)
   unfolding within
   ends-within (pos a) limit number f listed g = ends-cond (ltb a limit) (f a) (fault number) (λ e. g a refl (ltb-true _ _ e)) (λ e. listed)

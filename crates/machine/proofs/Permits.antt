@@ -91,7 +91,8 @@ module _ (book : Book) (t : ℕ) where
 
 -- those who wait for a semaphore are those who began down without a permit
 pub record Passing (size : ℕ) (tables : Tables) (permits : Permits) : Type 0 where
-  pub left : (k : ℕ) → k < semaphoreLimit size → queue tables (atSemaphore size k) ≡ drop (permits .starting k + permits .ups k) (permits .downs k)
+  pub left : (k : ℕ) → k < semaphoreLimit size →
+      queue tables (atSemaphore size k) ≡ drop (permits .starting k + permits .ups k) (permits .downs k)
 
 all-dropped : (a : ℕ) (l : List ℕ) → length l ≤ a → drop a l ≡ []
 all-dropped a l h = drop-of-length-le l {i = a} h
@@ -106,17 +107,20 @@ module _ {size : ℕ} {tables : Tables} {permits : Permits} (p : Passing size ta
   passing-same next same = record { left = λ k h. same (atSemaphore size k) ∙ p .left k h }
 
   -- a thread goes from a place that is no semaphore's to another
-  pub passing-sent : (t q : ℕ) → t < length (tables .places) → ((k : ℕ) → k < semaphoreLimit size → q ≢ atSemaphore size k) →
+  pub passing-sent : (t q : ℕ) → t < length (tables .places) →
+      ((k : ℕ) → k < semaphoreLimit size → q ≢ atSemaphore size k) →
       ((k : ℕ) → k < semaphoreLimit size → placeOf tables t ≢ atSemaphore size k) → Passing size (sent tables t q) permits
   passing-sent t q below to from =
       record { left = λ k h. queue-kept tables t q (atSemaphore size k) below (λ e. to k h (sym e)) (from k h) ∙ p .left k h }
 
   -- with a permit for every down nobody waits
-  pub nobody-left : (k : ℕ) → k < semaphoreLimit size → length (permits .downs k) ≤ permits .starting k + permits .ups k → queue tables (atSemaphore size k) ≡ []
+  pub nobody-left : (k : ℕ) → k < semaphoreLimit size →
+      length (permits .downs k) ≤ permits .starting k + permits .ups k → queue tables (atSemaphore size k) ≡ []
   nobody-left k h enough = p .left k h ∙ all-dropped (permits .starting k + permits .ups k) (permits .downs k) enough
 
   -- a semaphore is made, for which nobody waits
-  pub passing-opened : (k n : ℕ) → k < semaphoreLimit size → queue tables (atSemaphore size k) ≡ [] → Passing size tables (opened permits n (pos k))
+  pub passing-opened : (k n : ℕ) → k < semaphoreLimit size → queue tables (atSemaphore size k) ≡ [] →
+      Passing size tables (opened permits n (pos k))
   passing-opened k n h none =
       record {
         left =
@@ -129,7 +133,8 @@ module _ {size : ℕ} {tables : Tables} {permits : Permits} (p : Passing size ta
       }
 
   -- up, where nobody waits
-  pub passing-up : (k : ℕ) → k < semaphoreLimit size → queue tables (atSemaphore size k) ≡ [] → Passing size tables (upped permits k)
+  pub passing-up : (k : ℕ) → k < semaphoreLimit size → queue tables (atSemaphore size k) ≡ [] →
+      Passing size tables (upped permits k)
   passing-up k h none =
       record {
         left =
@@ -142,7 +147,8 @@ module _ {size : ℕ} {tables : Tables} {permits : Permits} (p : Passing size ta
       }
 
   -- up, where the first waiter becomes ready
-  pub passing-woken : (k w : ℕ) (rest : List ℕ) → k < semaphoreLimit size → queue tables (atSemaphore size k) ≡ w ∷ rest → placeOf tables w ≡ atSemaphore size k →
+  pub passing-woken : (k w : ℕ) (rest : List ℕ) → k < semaphoreLimit size →
+      queue tables (atSemaphore size k) ≡ w ∷ rest → placeOf tables w ≡ atSemaphore size k →
       w < length (tables .places) → count w (tables .line) ≡ 1 → Passing size (sent tables w ready) (upped permits k)
   passing-woken k w rest h waits at below once =
       record {
@@ -160,7 +166,8 @@ module _ {size : ℕ} {tables : Tables} {permits : Permits} (p : Passing size ta
       }
 
   -- down, where there is a permit
-  pub passing-down : (k t : ℕ) → k < semaphoreLimit size → length (permits .downs k) < permits .starting k + permits .ups k →
+  pub passing-down : (k t : ℕ) → k < semaphoreLimit size →
+      length (permits .downs k) < permits .starting k + permits .ups k →
       Passing size tables (downed permits t k)
   passing-down k t h room =
       record {
@@ -176,7 +183,8 @@ module _ {size : ℕ} {tables : Tables} {permits : Permits} (p : Passing size ta
       }
 
   -- down, where there is none: the thread waits
-  pub passing-waits : (k t : ℕ) → k < semaphoreLimit size → permits .starting k + permits .ups k ≤ length (permits .downs k) → t < length (tables .places) →
+  pub passing-waits : (k t : ℕ) → k < semaphoreLimit size →
+      permits .starting k + permits .ups k ≤ length (permits .downs k) → t < length (tables .places) →
       count t (tables .line) ≡ 1 → ((j : ℕ) → j < semaphoreLimit size → placeOf tables t ≢ atSemaphore size j) →
       Passing size (sent tables t (atSemaphore size k)) (downed permits t k)
   passing-waits k t h full below once from =
@@ -197,12 +205,14 @@ module _ {size : ℕ} {tables : Tables} {permits : Permits} (p : Passing size ta
 -- each semaphore made has what was permitted less the downs begun, and nothing was done on one not made
 pub record Counted (size : ℕ) (values : List ℤ) (semaphores : ℕ) (permits : Permits) : Type 0 where
   pub made-once : (k : ℕ) → permits .made k ≡ cond (ltb k semaphores) 1 0
-  pub count : (k : ℕ) → k < semaphores → semaphoreCount size values k ≡ pos (permits .starting k + permits .ups k) -ℤ pos (length (permits .downs k))
+  pub count : (k : ℕ) → k < semaphores →
+      semaphoreCount size values k ≡ pos (permits .starting k + permits .ups k) -ℤ pos (length (permits .downs k))
   pub unstarted : (k : ℕ) → semaphores ≤ k → permits .starting k ≡ 0
   pub not-upped : (k : ℕ) → semaphores ≤ k → permits .ups k ≡ 0
   pub unused : (k : ℕ) → semaphores ≤ k → permits .downs k ≡ []
 
-module _ {size : ℕ} {values : List ℤ} {semaphores : ℕ} {permits : Permits} (c : Counted size values semaphores permits) where
+module _ {size : ℕ} {values : List ℤ} {semaphores : ℕ} {permits : Permits}
+    (c : Counted size values semaphores permits) where
   -- a thread's result is kept
   pub counted-result : (t : ℕ) (v : ℤ) → t < size → Counted size (set values t v) semaphores permits
   counted-result t v below =
@@ -218,7 +228,8 @@ module _ {size : ℕ} {values : List ℤ} {semaphores : ℕ} {permits : Permits}
   elsewhere : (k j : ℕ) (v : ℤ) → j ≢ k → semaphoreCount size (set values (size + k) v) j ≡ semaphoreCount size values j
   elsewhere k j v far = getD-set-other values (size + k) (size + j) v (pos 0) (λ e. far (omega (arith, e)))
 
-  here : (k : ℕ) (v : ℤ) → k < semaphoreLimit size → length values ≡ valuesSize size → semaphoreCount size (set values (size + k) v) k ≡ v
+  here : (k : ℕ) (v : ℤ) → k < semaphoreLimit size → length values ≡ valuesSize size →
+      semaphoreCount size (set values (size + k) v) k ≡ v
   here k v limit valued = getD-set-same values (size + k) v (pos 0) (omega (arith, valued))
 
   -- a semaphore is made

@@ -21,18 +21,23 @@ use Rattle.machine.proofs.Traces.{book-next, book-past}
 
 -- what an instruction does to a semaphore's permits and downs
 data Grants (k : ℕ) (now next : Book) (thread : ℕ) (happens : Event) : Type 0 where
-  opens : happens ≢ event.downs k → next .permits .made k ≡ now .permits .made k + 1 → permitted now k ≤ permitted next k → next .permits .downs k ≡ now .permits .downs k →
+  opens : happens ≢ event.downs k → next .permits .made k ≡ now .permits .made k + 1 →
+      permitted now k ≤ permitted next k → next .permits .downs k ≡ now .permits .downs k →
       Grants k now next thread happens
-  raises : happens ≡ event.ups k → permitted next k ≡ permitted now k + 1 → next .permits .downs k ≡ now .permits .downs k →
+  raises : happens ≡ event.ups k → permitted next k ≡ permitted now k + 1 →
+      next .permits .downs k ≡ now .permits .downs k →
       Grants k now next thread happens
-  lowers : happens ≡ event.downs k → permitted next k ≡ permitted now k → next .permits .downs k ≡ now .permits .downs k ++ thread ∷ [] →
+  lowers : happens ≡ event.downs k → permitted next k ≡ permitted now k →
+      next .permits .downs k ≡ now .permits .downs k ++ thread ∷ [] →
       Grants k now next thread happens
-  neither : happens ≢ event.downs k → permitted next k ≡ permitted now k → next .permits .downs k ≡ now .permits .downs k → Grants k now next thread happens
+  neither : happens ≢ event.downs k → permitted next k ≡ permitted now k →
+      next .permits .downs k ≡ now .permits .downs k → Grants k now next thread happens
 
 down-differs : (a b : ℕ) → a ≢ b → event.downs a ≢ event.downs b
 down-differs a b h e = h (let same : event.downs a ≡ event.downs b = e in cc)
 
-grants : (k : ℕ) (now : Book) (thread : ℕ) (happens : Event) → Grants k now (fed now (entry thread happens)) thread happens
+grants : (k : ℕ) (now : Book) (thread : ℕ) (happens : Event) →
+    Grants k now (fed now (entry thread happens)) thread happens
 unfolding fed
 grants k now thread (event.opens n (pos j)) =
     same-or-not k j
@@ -67,7 +72,8 @@ module _ (trace : List Entry) (opened : (j : ℕ) → Opened (bookAt trace j)) w
   abbrev begun : ℕ → ℕ → ℕ
   begun j k = length (bookAt trace j .permits .downs k)
 
-  next : (k j : ℕ) → j < length trace → Grants k (bookAt trace j) (bookAt trace (suc j)) (entryAt trace j .thread) (entryAt trace j .event)
+  next : (k j : ℕ) → j < length trace →
+      Grants k (bookAt trace j) (bookAt trace (suc j)) (entryAt trace j .thread) (entryAt trace j .event)
   next k j h = rw (book-next trace j h) (grants k (bookAt trace j) (entryAt trace j .thread) (entryAt trace j .event))
 
   -- permits and downs never become fewer
@@ -92,7 +98,8 @@ module _ (trace : List Entry) (opened : (j : ℕ) → Opened (bookAt trace j)) w
       (omega (arith, a .0, b .0), omega (arith, a .1, b .1)))
 
   -- after a down the list has one name more, the thread's
-  added : (k j i : ℕ) → Waits trace k j i → bookAt trace (suc i) .permits .downs k ≡ bookAt trace i .permits .downs k ++ entryAt trace i .thread ∷ []
+  added : (k j i : ℕ) → Waits trace k j i →
+      bookAt trace (suc i) .permits .downs k ≡ bookAt trace i .permits .downs k ++ entryAt trace i .thread ∷ []
   added k j i w = by-event (next k i (w .carried))
     where
       by-event : Grants k (bookAt trace i) (bookAt trace (suc i)) (entryAt trace i .thread) (entryAt trace i .event) →
@@ -107,7 +114,8 @@ module _ (trace : List Entry) (opened : (j : ℕ) → Opened (bookAt trace j)) w
       omega (arith, ap length (added k j i w), length-append (bookAt trace i .permits .downs k) (entryAt trace i .thread ∷ []), w .number)
 
   -- a name stays where it is
-  stays-next : (k n j : ℕ) → n < begun j k → getD (bookAt trace (suc j) .permits .downs k) n 0 ≡ getD (bookAt trace j .permits .downs k) n 0
+  stays-next : (k n j : ℕ) → n < begun j k →
+      getD (bookAt trace (suc j) .permits .downs k) n 0 ≡ getD (bookAt trace j .permits .downs k) n 0
   stays-next k n j less = less-or-not j (length trace) (λ h. by-event (next k j h)) (λ h. rw (book-past trace j h))
     where
       by-event : Grants k (bookAt trace j) (bookAt trace (suc j)) (entryAt trace j .thread) (entryAt trace j .event) →
@@ -117,14 +125,16 @@ module _ (trace : List Entry) (opened : (j : ℕ) → Opened (bookAt trace j)) w
       by-event (lowers e p d) = rw d (List·getD-append (bookAt trace j .permits .downs k) (entryAt trace j .thread ∷ []) 0 n less)
       by-event (neither e p d) = rw d
 
-  stays : (k n i l : ℕ) → i ≤ l → n < begun i k → getD (bookAt trace l .permits .downs k) n 0 ≡ getD (bookAt trace i .permits .downs k) n 0
+  stays : (k n i l : ℕ) → i ≤ l → n < begun i k →
+      getD (bookAt trace l .permits .downs k) n 0 ≡ getD (bookAt trace i .permits .downs k) n 0
   stays k n i zero h less = let e : i ≡ 0 = omega arith in rw e
   stays k n i (suc l) h less =
       same-or-not i (suc l)
       (λ e. rw e)
       (λ e. stays-next k n l (omega (arith, less, grows k i l (omega arith) .1)) ∙ stays k n i l (omega arith) less)
 
-  named : (k j i l : ℕ) → Waits trace k j i → i < l → getD (bookAt trace l .permits .downs k) j 0 ≡ entryAt trace i .thread
+  named : (k j i l : ℕ) → Waits trace k j i → i < l →
+      getD (bookAt trace l .permits .downs k) j 0 ≡ entryAt trace i .thread
   named k j i l w h =
       stays k j (suc i) l h (omega (arith, after-down k j i w))
       ∙ rw (added k j i w) (getD-at (bookAt trace i .permits .downs k) (entryAt trace i .thread) [] 0 j (w .number))
@@ -137,7 +147,8 @@ module _ (trace : List Entry) (opened : (j : ℕ) → Opened (bookAt trace j)) w
   rises : (k l : ℕ) → l < length trace → 0 < begun l k → Rises k l
   rises k l h some = by-event (next k l h)
     where
-      by-event : Grants k (bookAt trace l) (bookAt trace (suc l)) (entryAt trace l .thread) (entryAt trace l .event) → Rises k l
+      by-event : Grants k (bookAt trace l) (bookAt trace (suc l)) (entryAt trace l .thread) (entryAt trace l .event) →
+          Rises k l
       by-event (opens e m p d) = absurd (omega (arith, m, opened l .begun-made k some, opened (suc l) .at-most-once k))
       by-event (raises e p d) = record { one = omega (arith, p); by = λ more. e }
       by-event (lowers e p d) = record { one = omega (arith, p); by = λ more. absurd (omega (arith, p)) }
@@ -158,11 +169,13 @@ module _ (trace : List Entry) (opened : (j : ℕ) → Opened (bookAt trace j)) w
   first-left : (k j i l : ℕ) → Waits trace k j i → Passes trace k j l → granted l k ≡ j
   first-left k j i l w p = omega (arith, p .before, p .after, step-of k j i l w p .one)
 
-  one-by-one : (k j i h g l : ℕ) → Waits trace k j i → Waits trace k h g → Passes trace k j l → Passes trace k h l → j ≡ h
+  one-by-one : (k j i h g l : ℕ) → Waits trace k j i → Waits trace k h g → Passes trace k j l → Passes trace k h l →
+      j ≡ h
   one-by-one k j i h g l w v p q = sym (first-left k j i l w p) ∙ first-left k h g l v q
 
   -- a down without a permit, and with one later, passes in between
-  crossing : (k j a l : ℕ) → a ≤ l → l ≤ length trace → granted a k ≤ j → j < granted l k → (e : ℕ) × (e < l) × Passes trace k j e
+  crossing : (k j a l : ℕ) → a ≤ l → l ≤ length trace → granted a k ≤ j → j < granted l k →
+      (e : ℕ) × (e < l) × Passes trace k j e
   crossing k j a zero h long before after = absurd (let same : a ≡ 0 = omega arith in let none : granted 0 k ≤ j = rw same at before in omega arith)
   crossing k j a (suc l) h long before after =
       less-or-not j (granted l k)
@@ -172,7 +185,8 @@ module _ (trace : List Entry) (opened : (j : ℕ) → Opened (bookAt trace j)) w
       (λ e. let x = crossing k j a l (omega arith) (omega arith) before sooner in (x .0, omega (arith, x .1), x .2)))
       (λ now. (l, omega arith, record { carried = omega arith; before = now; after = after }))
 
-  ordered : (k j i h g l : ℕ) → Waits trace k j i → Waits trace k h g → i < g → Passes trace k h l → (e : ℕ) × (e < l) × Passes trace k j e
+  ordered : (k j i h g l : ℕ) → Waits trace k j i → Waits trace k h g → i < g → Passes trace k h l →
+      (e : ℕ) × (e < l) × Passes trace k j e
   ordered k j i h g l w v sooner p =
       let less : j < h = omega (arith, after-down k j i w, grows k (suc i) g sooner .1, v .number) in
       crossing k j (suc i) l (omega (arith, later k h g l v p)) (omega (arith, p .carried)) (w .without) (omega (arith, first-left k h g l v p))

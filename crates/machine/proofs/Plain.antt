@@ -61,7 +61,9 @@ module _ (size : ℕ) (r : Registers) (tables : Tables) (t : ℕ) where
   queued = savedFits tables t && (isAt tables ready t || (leb 4 place && waitFits size r tables place))
 
   -- the test's cases
-  standing : {X : Type 0} → threadFits size r tables t ≡ true → (r .threads ≤ t → place ≡ unmade → X) → (t ≡ r .thread → t < r .threads → place ≡ active → X) → (t < r .threads → place ≡ ended → X) → (t < r .threads → ready ≤ place → queued ≡ true → X) → X
+  standing : {X : Type 0} → threadFits size r tables t ≡ true → (r .threads ≤ t → place ≡ unmade → X) →
+      (t ≡ r .thread → t < r .threads → place ≡ active → X) → (t < r .threads → place ≡ ended → X) →
+      (t < r .threads → ready ≤ place → queued ≡ true → X) → X
   standing e none runs gone waits =
       cases (leb (r .threads) t)
       (λ a. none (leb-true _ _ a) (eqb-true _ _ (rw a at e)))
@@ -74,7 +76,8 @@ module _ (size : ℕ) (r : Registers) (tables : Tables) (t : ℕ) where
       waits made (cases (isAt tables ready t) (λ d. omega tests) (λ d. omega (tests, and-first (leb 4 place) _ (or-true (isAt tables ready t) _ (and-second (savedFits tables t) _ q) d)))) q)))
 
   -- a thread that passes has its place as read plainly
-  plain-place : threadFits size r tables t ≡ true → Placed size (r .threads) (r .mutexes) (r .conditions) (r .semaphores) (r .thread) tables t
+  plain-place : threadFits size r tables t ≡ true →
+      Placed size (r .threads) (r .mutexes) (r .conditions) (r .semaphores) (r .thread) tables t
   plain-place e =
       record {
         not-made = λ h. standing e (λ a b. b) (λ a b c. omega arith) (λ a b. omega arith) (λ a b c. omega arith);
@@ -107,7 +110,8 @@ module _ (size : ℕ) (r : Registers) (tables : Tables) (t : ℕ) where
       waiting h = and-second (leb 4 place) _ (or-true (isAt tables ready t) _ (and-second (savedFits tables t) _ (queues (omega arith))) (ne-eqb place 3 (omega arith)))
 
   -- what a thread waits for is made
-  test-wait : Placed size (r .threads) (r .mutexes) (r .conditions) (r .semaphores) (r .thread) tables t → 4 ≤ place → waitFits size r tables place ≡ true
+  test-wait : Placed size (r .threads) (r .mutexes) (r .conditions) (r .semaphores) (r .thread) tables t → 4 ≤ place →
+      waitFits size r tables place ≡ true
   test-wait p h =
       true-cond (ltb place (4 + 2 * size)) _ _
       (λ a. let w = p .awaited .for-mutex (place - 4) (omega tests) (omega arith) in
@@ -120,7 +124,8 @@ module _ (size : ℕ) (r : Registers) (tables : Tables) (t : ℕ) where
       true-and _ _ (lt-ltb _ _ (w .0)) (true-not _ (ne-eqb _ _ (w .1))))))
 
   -- and a thread whose place reads plainly passes the test
-  test-place : Tidy size (r .threads) (r .mutexes) (r .conditions) (r .semaphores) (r .thread) tables → t < size → threadFits size r tables t ≡ true
+  test-place : Tidy size (r .threads) (r .mutexes) (r .conditions) (r .semaphores) (r .thread) tables → t < size →
+      threadFits size r tables t ≡ true
   test-place y h =
       let p = y .placed t h in
       true-cond (leb (r .threads) t) _ _
@@ -189,13 +194,15 @@ module _ (size : ℕ) (r : Registers) (tables : Tables) where
       search (true-and, le-leb) depth 8
 
   -- the owners
-  plain-owner : (m : ℕ) → ownerFits size r tables m ≡ true → ownerOf tables m ≢ size → (m < r .mutexes) × (ownerOf tables m < r .threads) × (ended < placeOf tables (ownerOf tables m))
+  plain-owner : (m : ℕ) → ownerFits size r tables m ≡ true → ownerOf tables m ≢ size →
+      (m < r .mutexes) × (ownerOf tables m < r .threads) × (ended < placeOf tables (ownerOf tables m))
   plain-owner m e held =
       let v = and-true (ltb m (r .mutexes)) _ (or-true (eqb (ownerOf tables m) size) _ e (ne-eqb _ _ held)) in
       let w = and-true (ltb (ownerOf tables m) (r .threads)) _ (v .1) in
       (ltb-true _ _ (v .0), ltb-true _ _ (w .0), ltb-true _ _ (w .1))
 
-  test-owner : Tidy size (r .threads) (r .mutexes) (r .conditions) (r .semaphores) (r .thread) tables → (m : ℕ) → m < mutexLimit size → ownerFits size r tables m ≡ true
+  test-owner : Tidy size (r .threads) (r .mutexes) (r .conditions) (r .semaphores) (r .thread) tables → (m : ℕ) →
+      m < mutexLimit size → ownerFits size r tables m ≡ true
   test-owner y m h =
       true-or (eqb (ownerOf tables m) size) _
       (λ a. let held = eqb-false _ _ a in
@@ -203,7 +210,8 @@ module _ (size : ℕ) (r : Registers) (tables : Tables) where
       true-and _ _ (lt-ltb _ _ (w .0)) (true-and _ _ (lt-ltb _ _ (w .1)) (lt-ltb ended _ (y .owners-live m h held))))
 
 -- the test of a well-formed state gives the plain reading
-pub plain : (size : ℕ) (r : Registers) (tables : Tables) (values : List ℤ) → formed size r tables values ≡ true → Formed size r tables values
+pub plain : (size : ℕ) (r : Registers) (tables : Tables) (values : List ℤ) → formed size r tables values ≡ true →
+    Formed size r tables values
 unfolding formed
 plain size r tables values e =
     let a = and-true (registersFit size r) _ e in
@@ -238,7 +246,8 @@ plain size r tables values e =
     }
 
 -- and the plain reading gives the test
-pub tested : (size : ℕ) (r : Registers) (tables : Tables) (values : List ℤ) → Formed size r tables values → formed size r tables values ≡ true
+pub tested : (size : ℕ) (r : Registers) (tables : Tables) (values : List ℤ) → Formed size r tables values →
+    formed size r tables values ≡ true
 unfolding formed
 tested size r tables values f =
     true-and (registersFit size r) _ (test-registers size r tables values f)

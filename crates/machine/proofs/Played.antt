@@ -23,7 +23,8 @@ record Kept (size : ℕ) (book : Book) (call : Call) (before : Box) : Type 0 whe
   lawful : Lawful book (callOf size call before .trace)
   answer : NotDamaged (callOf size call before .answer)
 
-one-call : (size : ℕ) (card : List ℕ) (cells : ℕ) → readOf card ≡ result.gives cells → (call : Call) → Fitting card call →
+one-call : (size : ℕ) (card : List ℕ) (cells : ℕ) → readOf card ≡ result.gives cells → (call : Call) →
+    Fitting card call →
     (before : Box) (book : Book) → Held size before book → Kept size book call before
 unfolding bookOf Lawful
 one-call size card cells e call (inl same) before book h =
@@ -46,7 +47,8 @@ pub record Led (size : ℕ) (book : Book) (calls : List Call) (before : Box) : T
   pub lawful : Lawful book (played size calls before .trace)
   pub answers : Each NotDamaged (played size calls before .answers)
 
-list : (size : ℕ) (card : List ℕ) (cells : ℕ) → readOf card ≡ result.gives cells → (calls : List Call) → Each (Fitting card) calls →
+list : (size : ℕ) (card : List ℕ) (cells : ℕ) → readOf card ≡ result.gives cells → (calls : List Call) →
+    Each (Fitting card) calls →
     (before : Box) (book : Book) → Held size before book → Led size book calls before
 unfolding played Each bookOf Lawful
 list size card cells e [] all before book h = record { box = h; lawful = tt; answers = tt }

@@ -40,7 +40,8 @@ module _ (tables : Tables) (t p : ℕ) where
   unfolding sent
   sent-count s = count-to-end s t (tables .line)
 
-  pub sent-saved : (sent tables t p .pcs ≡ tables .pcs) × (sent tables t p .depths ≡ tables .depths) × (sent tables t p .frames ≡ tables .frames)
+  pub sent-saved : (sent tables t p .pcs ≡ tables .pcs) × (sent tables t p .depths ≡ tables .depths)
+      × (sent tables t p .frames ≡ tables .frames)
   unfolding sent
   sent-saved = (refl, refl, refl)
 
@@ -61,14 +62,16 @@ module _ (tables : Tables) (t p : ℕ) where
   agree q s h = ap (λ (k : ℕ). eqb k q) (sent-there s h)
 
   -- the queue that a thread joins has it last
-  pub queue-joined : t < length (tables .places) → count t (tables .line) ≡ 1 → placeOf tables t ≢ p → queue (sent tables t p) p ≡ queue tables p ++ t ∷ []
+  pub queue-joined : t < length (tables .places) → count t (tables .line) ≡ 1 → placeOf tables t ≢ p →
+      queue (sent tables t p) p ≡ queue tables p ++ t ∷ []
   unfolding queue sent
   queue-joined h once away =
       arrives (isAt (sent tables t p) p) (isAt tables p) t (agree p) (tables .line)
       (eq-eqb _ _ (sent-here h)) (ne-eqb _ _ away) once
 
   -- a queue that a thread neither leaves nor joins stays
-  pub queue-kept : (q : ℕ) → t < length (tables .places) → q ≢ p → placeOf tables t ≢ q → queue (sent tables t p) q ≡ queue tables q
+  pub queue-kept : (q : ℕ) → t < length (tables .places) → q ≢ p → placeOf tables t ≢ q →
+      queue (sent tables t p) q ≡ queue tables q
   unfolding queue sent
   queue-kept q h other away =
       keep-to-end (isAt (sent tables t p) q) t (tables .line) (ne-eqb _ _ (λ e. other (sym e ∙ sent-here h)))
@@ -79,7 +82,8 @@ module _ (tables : Tables) (t p : ℕ) where
       (agree q s))
 
   -- the queue whose first thread leaves is the rest
-  pub queue-left : (q : ℕ) (rest : List ℕ) → t < length (tables .places) → count t (tables .line) ≡ 1 → q ≢ p → queue tables q ≡ t ∷ rest → queue (sent tables t p) q ≡ rest
+  pub queue-left : (q : ℕ) (rest : List ℕ) → t < length (tables .places) → count t (tables .line) ≡ 1 → q ≢ p →
+      queue tables q ≡ t ∷ rest → queue (sent tables t p) q ≡ rest
   unfolding queue sent
   queue-left q rest h once other e =
       let away : isAt (sent tables t p) q t ≡ false = ne-eqb _ _ (λ k. other (sym k ∙ sent-here h)) in
@@ -105,7 +109,8 @@ module _ (tables : Tables) (m o : ℕ) where
   unfolding owned
   owned-line = refl
 
-  pub owned-saved : (owned tables m o .pcs ≡ tables .pcs) × (owned tables m o .depths ≡ tables .depths) × (owned tables m o .frames ≡ tables .frames)
+  pub owned-saved : (owned tables m o .pcs ≡ tables .pcs) × (owned tables m o .depths ≡ tables .depths)
+      × (owned tables m o .frames ≡ tables .frames)
   unfolding owned
   owned-saved = (refl, refl, refl)
 
@@ -186,7 +191,8 @@ unfolding queue
 first-in-line tables q t rest e = first-occurs (isAt tables q) (tables .line) t rest e
 
 -- nobody of the line is at the place of an empty queue
-pub empty-queue : (tables : Tables) (q : ℕ) → queue tables q ≡ [] → (t : ℕ) → 0 < count t (tables .line) → placeOf tables t ≢ q
+pub empty-queue : (tables : Tables) (q : ℕ) → queue tables q ≡ [] → (t : ℕ) → 0 < count t (tables .line) →
+    placeOf tables t ≢ q
 unfolding queue
 empty-queue tables q e t below at = eqb-false _ _ (none-passes (isAt tables q) (tables .line) e t below) at
 
@@ -195,7 +201,8 @@ pub count-queue : (tables : Tables) (q t : ℕ) → placeOf tables t ≢ q → c
 unfolding queue
 count-queue tables q t away = count-keep t (isAt tables q) (tables .line) ∙ rw (ne-eqb _ _ away)
 
-pub count-queued : (tables : Tables) (q t : ℕ) → placeOf tables t ≡ q → count t (queue tables q) ≡ count t (tables .line)
+pub count-queued : (tables : Tables) (q t : ℕ) → placeOf tables t ≡ q →
+    count t (queue tables q) ≡ count t (tables .line)
 unfolding queue
 count-queued tables q t at = count-keep t (isAt tables q) (tables .line) ∙ rw (eq-eqb _ _ at)
 
@@ -204,12 +211,14 @@ pub first-nobody : (tables : Tables) (q : ℕ) → queue tables q ≡ [] → fir
 unfolding first
 first-nobody tables q e = ap firstOf e
 
-pub first-waiter : (tables : Tables) (q t : ℕ) (rest : List ℕ) → queue tables q ≡ t ∷ rest → first tables q ≡ Waiter (record { 0 = t })
+pub first-waiter : (tables : Tables) (q t : ℕ) (rest : List ℕ) → queue tables q ≡ t ∷ rest →
+    first tables q ≡ Waiter (record { 0 = t })
 unfolding first
 first-waiter tables q t rest e = ap firstOf e
 
 -- a place where nobody is has an empty queue
-pub no-queue : (tables : Tables) (q : ℕ) → ((t : ℕ) → 0 < count t (tables .line) → placeOf tables t ≢ q) → queue tables q ≡ []
+pub no-queue : (tables : Tables) (q : ℕ) → ((t : ℕ) → 0 < count t (tables .line) → placeOf tables t ≢ q) →
+    queue tables q ≡ []
 unfolding queue
 no-queue tables q h = keep-none (isAt tables q) (tables .line) (λ t below. ne-eqb _ _ (h t below))
 
@@ -225,7 +234,8 @@ unfolding queue
 queue-short tables q = keep-short (isAt tables q) (tables .line)
 
 -- of two moves of a thread the second counts
-pub sent-again : (tables : Tables) (t p q : ℕ) → count t (tables .line) ≡ 1 → sent (sent tables t p) t q ≡ sent tables t q
+pub sent-again : (tables : Tables) (t p q : ℕ) → count t (tables .line) ≡ 1 →
+    sent (sent tables t p) t q ≡ sent tables t q
 unfolding sent
 sent-again tables t p q once = rw (set-set (tables .places) t p q, to-end-twice t (tables .line) once)
 

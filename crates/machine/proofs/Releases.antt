@@ -88,7 +88,8 @@ releasing instr.broadcast = silent _ (λ size s u. refl)
 -- ---- one instruction
 
 -- the owner of a mutex has it
-has : (size : ℕ) (tables : Tables) (book : Book) → Booked size tables book → (m t : ℕ) → m < mutexLimit size → ownerOf tables m ≡ t → t ≢ size → Has book m t
+has : (size : ℕ) (tables : Tables) (book : Book) → Booked size tables book → (m t : ℕ) → m < mutexLimit size →
+    ownerOf tables m ≡ t → t ≢ size → Has book m t
 has size tables book b m t limit owner some =
     (queue tables (atMutex m), b .ordered m limit ∙ ap (λ (l : List ℕ). l ++ queue tables (atMutex m)) (held size tables m t owner some))
 
@@ -97,7 +98,8 @@ module _ (size n : ℕ) (s : State) (book : Book) (y : Runs size s book) (short 
   Rights i u = Rightful book (entry (s .regs .thread) (eventOf size s i u))
 
   -- unlock and wait come to their mutex where the running thread owns it
-  mine : (m k : ℕ) → m < s .regs .mutexes → ownerOf (s .tables) m ≡ s .regs .thread → event.unlocks m ≡ event.unlocks k → Has book k (s .regs .thread)
+  mine : (m k : ℕ) → m < s .regs .mutexes → ownerOf (s .tables) m ≡ s .regs .thread →
+      event.unlocks m ≡ event.unlocks k → Has book k (s .regs .thread)
   mine m k made owner same =
       let is : m ≡ k = cc in
       has size (s .tables) book (y .steady .both .booked) k (s .regs .thread) (omega (arith, is, y .steady .both .kempt .tidy .counts .mutexes-fit)) (ap (ownerOf (s .tables)) (sym is) ∙ owner) (y .some)

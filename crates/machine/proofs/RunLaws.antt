@@ -42,7 +42,8 @@ step-one = step-is-run
 
 module _ (size : ℕ) (words : List ℕ) where
   -- a machine that faulted has stopped
-  after-fault : (s : State) (number m : ℕ) → carried size words s ≡ record { state = withRegs s (stopped (s .regs) number); trace = [] } →
+  after-fault : (s : State) (number m : ℕ) →
+      carried size words s ≡ record { state = withRegs s (stopped (s .regs) number); trace = [] } →
       isRunning (s .regs) ≡ true → run size words s (suc m) ≡ carried size words s
   after-fault s number m e runs =
       rw (run-more size words s m runs, e, run-stopped size words (withRegs s (stopped (s .regs) number)) m refl)

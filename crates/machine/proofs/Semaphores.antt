@@ -55,7 +55,8 @@ opened size s book l =
           (λ h. absurd (omega (arith, ap length (l .unused k h))));
     }
 
-module _ (size : ℕ) (some : 1 ≤ size) (card : List ℕ) (cells : ℕ) (lent : Box) (calls : List Call) (e : readOf card ≡ result.gives cells)
+module _ (size : ℕ) (some : 1 ≤ size) (card : List ℕ) (cells : ℕ) (lent : Box) (calls : List Call)
+    (e : readOf card ≡ result.gives cells)
     (fits : cells ≤ shared size) (store : length (lent .store) ≡ storeSize size) (tables : length (lent .tables) ≡ tablesSize size)
     (values : length (lent .values) ≡ valuesSize size) (all : Each (Fitting card) calls) where
   trace : List Entry

@@ -37,7 +37,8 @@ agree test [] (y ∷ ys) = false
 agree test (x ∷ xs) [] = false
 agree test (x ∷ xs) (y ∷ ys) = test x y && agree test xs ys
 
-agree-is : {A : Type 0} (test : A → A → Bool) → ((x y : A) → test x y ≡ true → x ≡ y) → (xs ys : List A) → agree test xs ys ≡ true → xs ≡ ys
+agree-is : {A : Type 0} (test : A → A → Bool) → ((x y : A) → test x y ≡ true → x ≡ y) → (xs ys : List A) →
+    agree test xs ys ≡ true → xs ≡ ys
 unfolding agree
 agree-is test is [] [] e = refl
 agree-is test is [] (y ∷ ys) e = never e

@@ -44,7 +44,8 @@ pub record Marked (s : State) : Type 0 where
   pub sound : s .regs .fault ≡ 0
 
 -- with a running thread, such a machine is right
-pub active-right : (size : ℕ) (s : State) (book : Book) → Steady size s book → Marked s → s .regs .thread ≢ size → Right size s book
+pub active-right : (size : ℕ) (s : State) (book : Book) → Steady size s book → Marked s → s .regs .thread ≢ size →
+    Right size s book
 active-right size s book y m some =
     record {
       steady = y;
@@ -70,11 +71,13 @@ pub record Landed (size : ℕ) (s : State) (book : Book) : Type 0 where
   pub right : Right size s book
   pub sound : s .regs .fault ≡ 0
 
-pub active-landed : (size : ℕ) (s : State) (book : Book) → Steady size s book → Marked s → s .regs .thread ≢ size → Landed size s book
+pub active-landed : (size : ℕ) (s : State) (book : Book) → Steady size s book → Marked s → s .regs .thread ≢ size →
+    Landed size s book
 active-landed size s book y m some = record { right = active-right size s book y m some; sound = m .sound }
 
 -- Next, where a thread has left
-pub next-right : (size : ℕ) (s : State) (book : Book) → Steady size s book → Marked s → s .regs .thread ≡ size → Landed size (next size s) book
+pub next-right : (size : ℕ) (s : State) (book : Book) → Steady size s book → Marked s → s .regs .thread ≡ size →
+    Landed size (next size s) book
 unfolding next anyLive
 next-right size s book y m none = by-queue (queue (s .tables) ready) refl
   where
@@ -190,7 +193,8 @@ module _ (size : ℕ) (s : State) (book : Book) (y : Runs size s book) where
   same-owners = saved-owners (s .tables) (s .regs .thread) (s .regs .pc) (s .regs .cells) (s .regs .fp)
 
   -- what stays of the machine when its thread has left, with the values that it leaves
-  gone-on : (p : ℕ) (values : List ℤ) (book′ : Book) → length values ≡ valuesSize size → Counted size values (s .regs .semaphores) (book′ .permits) →
+  gone-on : (p : ℕ) (values : List ℤ) (book′ : Book) → length values ≡ valuesSize size →
+      Counted size values (s .regs .semaphores) (book′ .permits) →
       Both size (s .regs .threads) (s .regs .mutexes) (s .regs .conditions) (s .regs .semaphores) size (sent kept (s .regs .thread) p) book′ →
       Steady size (left size (record { store = s .store; tables = s .tables; values = values; regs = s .regs }) p) book′
   unfolding left kept
@@ -251,7 +255,8 @@ module _ (size : ℕ) (s : State) (book : Book) (y : Runs size s book) where
       (unfold left in refl)
 
   -- the thread ends, where it owns no mutex
-  pub ends-right : ownsAny size (s .tables) (s .regs .thread) ≡ false → (v : ℤ) → Landed size (ends size s v) (fed book (entry (s .regs .thread) event.ends))
+  pub ends-right : ownsAny size (s .tables) (s .regs .thread) ≡ false → (v : ℤ) →
+      Landed size (ends size s v) (fed book (entry (s .regs .thread) event.ends))
   unfolding finished ownsAny
   ends-right free v =
       let b = y .steady .both in

@@ -36,7 +36,8 @@ unfolding bookOf Lawful
 still-after size s book r = record { right = r; lawful = tt }
 
 -- a fault marks the machine and changes nothing else
-pub fault-right : (size : ℕ) (s : State) (book : Book) → Right size s book → s .regs .thread ≢ size → (k : ℕ) → isFault k ≡ true → After size book (faultedAt s k)
+pub fault-right : (size : ℕ) (s : State) (book : Book) → Right size s book → s .regs .thread ≢ size → (k : ℕ) →
+    isFault k ≡ true → After size book (faultedAt s k)
 fault-right size s book r some k listed =
     still-after size (faultedAt s k .state) book
     (record {
@@ -69,7 +70,8 @@ marked size s book r e =
     let runs : s .regs .state ≡ running = eqb-true _ _ e in
     record { runs = runs; sound = r .number .none (λ k. omega (arith, k)) }
 
-some-thread : (size : ℕ) (s : State) (book : Book) → Right size s book → isRunning (s .regs) ≡ true → s .regs .thread ≢ size
+some-thread : (size : ℕ) (s : State) (book : Book) → Right size s book → isRunning (s .regs) ≡ true →
+    s .regs .thread ≢ size
 some-thread size s book r e = r .mode .has-thread (eqb-true _ _ e)
 
 module _ (size : ℕ) (words : List ℕ) (card : Card words) where
@@ -82,7 +84,8 @@ module _ (size : ℕ) (words : List ℕ) (card : Card words) where
   outcome s book r some i (fault k) e by = fault-right size s book r some k e
 
   -- PC has advanced to one that is in the card or just past it
-  onward-runs : (s : State) (book : Book) → Right size s book → isRunning (s .regs) ≡ true → s .regs .pc < length words → Runs size (onward s) book
+  onward-runs : (s : State) (book : Book) → Right size s book → isRunning (s .regs) ≡ true →
+      s .regs .pc < length words → Runs size (onward s) book
   onward-runs s book r e below =
       record {
         steady =
@@ -114,7 +117,8 @@ module _ (size : ℕ) (words : List ℕ) (card : Card words) where
       (card .targets (s .regs .pc) below)
 
   -- an instruction that was carried out counts 1, and a fault 0: the state afterwards tells which it was
-  counted : (s : State) (book : Book) (i : Instruction) (o : Outcome) → Ends (λ u. Landed size u (fed book (entry (s .regs .thread) (eventOf size (onward s) i u)))) o →
+  counted : (s : State) (book : Book) (i : Instruction) (o : Outcome) →
+      Ends (λ u. Landed size u (fed book (entry (s .regs .thread) (eventOf size (onward s) i u)))) o →
       cond (eqb (entered size s (onward s) i o .state .regs .state) faulted) 0 1 ≡ length (entered size s (onward s) i o .trace)
   counted s book i (done u) e = rw (ne-eqb (u .regs .state) faulted (λ k. never (rw (e .sound) at (e .right .number .listed k))))
   counted s book i (fault k) e = refl
@@ -127,7 +131,8 @@ module _ (size : ℕ) (words : List ℕ) (card : Card words) where
       (λ k. rw k (counted s book (decoded (getD words (s .regs .pc) 0)) (exec size (length words) (onward s) (decoded (getD words (s .regs .pc) 0))) (landed s book r e (ltb-true _ _ k))))
       (λ k. rw k)
 
-  pub carried-right : (s : State) (book : Book) → Right size s book → isRunning (s .regs) ≡ true → After size book (carried size words s)
+  pub carried-right : (s : State) (book : Book) → Right size s book → isRunning (s .regs) ≡ true →
+      After size book (carried size words s)
   unfolding carried
   carried-right s book r e =
       cases (ltb (s .regs .pc) (length words))
@@ -151,7 +156,8 @@ book-append book [] b = refl
 book-append book (e ∷ a) b = book-append (fed book e) a b
 
 -- one run after another
-joined-after : (size : ℕ) (book : Book) (first second : Ran) → After size book first → After size (bookOf book (first .trace)) second →
+joined-after : (size : ℕ) (book : Book) (first second : Ran) → After size book first →
+    After size (bookOf book (first .trace)) second →
     After size book (joined first second)
 joined-after size book first second a b =
     record {
@@ -159,7 +165,8 @@ joined-after size book first second a b =
       lawful = lawful-append book (first .trace) (second .trace) (a .lawful) (b .lawful);
     }
 
-pub run-right : (size : ℕ) (words : List ℕ) → Card words → (s : State) (book : Book) → Right size s book → (m : ℕ) → After size book (run size words s m)
+pub run-right : (size : ℕ) (words : List ℕ) → Card words → (s : State) (book : Book) → Right size s book → (m : ℕ) →
+    After size book (run size words s m)
 run-right size words card s book r zero = unfold run in still-after size s book r
 run-right size words card s book r (suc m) =
     cases (isRunning (s .regs))

@@ -120,33 +120,38 @@ target-at n op k h e =
     (λ j. omega (arith, no-target op k i j)))
 
 -- a fine instruction's operand is allowed
-allowed : (over fits : Bool) → cond over verdict.BadOpcode (cond fits verdict.Fine verdict.BadOperand) ≡ verdict.Fine → fits ≡ true
+allowed : (over fits : Bool) → cond over verdict.BadOpcode (cond fits verdict.Fine verdict.BadOperand) ≡ verdict.Fine →
+    fits ≡ true
 allowed true fits e = absurd (let z : _≡_ {A = ℕ} 0 1 = cc in omega arith)
 allowed false true e = refl
 allowed false false e = absurd (let z : _≡_ {A = ℕ} 0 1 = cc in omega arith)
 
 -- .. and its opcode is one
-known : (over fits : Bool) → cond over verdict.BadOpcode (cond fits verdict.Fine verdict.BadOperand) ≡ verdict.Fine → over ≡ false
+known : (over fits : Bool) → cond over verdict.BadOpcode (cond fits verdict.Fine verdict.BadOperand) ≡ verdict.Fine →
+    over ≡ false
 known true fits e = absurd (let z : _≡_ {A = ℕ} 0 1 = cc in omega arith)
 known false fits e = refl
 
 pub opcode-known : (n w : ℕ) → checkOf (lastOf n) w ≡ verdict.Fine → opcodeOf w ≤ 40
 opcode-known n w e = ltb-false 40 (opcodeOf w) (known (ltb 40 (opcodeOf w)) (allows (ruleOf (opcodeOf w)) (lastOf n) (operandOf w)) e)
 
-pub operand-allowed : (n w : ℕ) → checkOf (lastOf n) w ≡ verdict.Fine → allows (ruleOf (opcodeOf w)) (lastOf n) (operandOf w) ≡ true
+pub operand-allowed : (n w : ℕ) → checkOf (lastOf n) w ≡ verdict.Fine →
+    allows (ruleOf (opcodeOf w)) (lastOf n) (operandOf w) ≡ true
 operand-allowed n w e = allowed (ltb 40 (opcodeOf w)) (allows (ruleOf (opcodeOf w)) (lastOf n) (operandOf w)) e
 
 pub target-in : (n w : ℕ) → 1 ≤ n → checkOf (lastOf n) w ≡ verdict.Fine → targetOf (decoded w) < n
 target-in n w h e = target-at n (opcodeOf w) (operandOf w) h (operand-allowed n w e)
 
 -- a search that found nothing found this word fine, and the rest
-good-word : (v : Verdict) (i : ℕ) (rest : Scan) → orElse (scanOf v i) rest ≡ scan.Fine → (v ≡ verdict.Fine) × (rest ≡ scan.Fine)
+good-word : (v : Verdict) (i : ℕ) (rest : Scan) → orElse (scanOf v i) rest ≡ scan.Fine →
+    (v ≡ verdict.Fine) × (rest ≡ scan.Fine)
 good-word verdict.Fine i rest e = (refl, e)
 good-word verdict.BadOpcode i rest e = absurd (let z : _≡_ {A = ℕ} 0 1 = cc in omega arith)
 good-word verdict.BadOperand i rest e = absurd (let z : _≡_ {A = ℕ} 0 1 = cc in omega arith)
 
 -- every instruction of a card that was searched in vain is fine
-pub all-fine : (n i : ℕ) (ws : List ℕ) → firstBad (lastOf n) i ws ≡ scan.Fine → (k : ℕ) → k < length ws → checkOf (lastOf n) (getD ws k 0) ≡ verdict.Fine
+pub all-fine : (n i : ℕ) (ws : List ℕ) → firstBad (lastOf n) i ws ≡ scan.Fine → (k : ℕ) → k < length ws →
+    checkOf (lastOf n) (getD ws k 0) ≡ verdict.Fine
 unfolding firstBad
 all-fine n i [] e k h = absurd (omega arith)
 all-fine n i (w ∷ ws) e zero h = good-word (checkOf (lastOf n) w) i (firstBad (lastOf n) (suc i) ws) e .0
@@ -157,5 +162,6 @@ pub record Card (words : List ℕ) : Type 0 where
   pub some : 1 ≤ length words
   pub most : length words ≤ 4096
   pub opcodes : (i : ℕ) → i < length words → opcodeOf (getD words i 0) ≤ 40
-  pub permitted : (i : ℕ) → i < length words → allows (ruleOf (opcodeOf (getD words i 0))) (lastOf (length words)) (operandOf (getD words i 0)) ≡ true
+  pub permitted : (i : ℕ) → i < length words →
+      allows (ruleOf (opcodeOf (getD words i 0))) (lastOf (length words)) (operandOf (getD words i 0)) ≡ true
   pub targets : (i : ℕ) → i < length words → targetOf (decoded (getD words i 0)) < length words

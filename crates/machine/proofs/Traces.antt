@@ -22,7 +22,8 @@ pub data Feeds (m : ℕ) (now next : Book) (thread : ℕ) (happens : Event) : Ty
       Feeds m now next thread happens
   released : happens ≡ event.unlocks m → next .releases m ≡ suc (now .releases m) → next .names m ≡ now .names m →
       Feeds m now next thread happens
-  neither : happens ≢ event.locks m → happens ≢ event.unlocks m → next .releases m ≡ now .releases m → next .names m ≡ now .names m →
+  neither : happens ≢ event.locks m → happens ≢ event.unlocks m → next .releases m ≡ now .releases m →
+      next .names m ≡ now .names m →
       Feeds m now next thread happens
 
 lock-differs : (a b : ℕ) → a ≢ b → event.locks a ≢ event.locks b
@@ -31,7 +32,8 @@ lock-differs a b h e = h (let same : event.locks a ≡ event.locks b = e in cc)
 unlock-differs : (a b : ℕ) → a ≢ b → event.unlocks a ≢ event.unlocks b
 unlock-differs a b h e = h (let same : event.unlocks a ≡ event.unlocks b = e in cc)
 
-feeds : (m : ℕ) (now : Book) (thread : ℕ) (happens : Event) → Feeds m now (fed now (entry thread happens)) thread happens
+feeds : (m : ℕ) (now : Book) (thread : ℕ) (happens : Event) →
+    Feeds m now (fed now (entry thread happens)) thread happens
 unfolding fed
 feeds m now thread (event.locks k) =
     same-or-not m k
@@ -66,7 +68,8 @@ module _ (trace : List Entry) where
   book-past j h = rw (take-all (suc j) trace (omega arith), take-all j trace h)
 
   -- what the next instruction does to a mutex
-  next : (m j : ℕ) → j < length trace → Feeds m (bookAt trace j) (bookAt trace (suc j)) (entryAt trace j .thread) (entryAt trace j .event)
+  next : (m j : ℕ) → j < length trace →
+      Feeds m (bookAt trace j) (bookAt trace (suc j)) (entryAt trace j .thread) (entryAt trace j .event)
   next m j h = rw (book-next j h) (feeds m (bookAt trace j) (entryAt trace j .thread) (entryAt trace j .event))
 
   -- a later book: the count no smaller, the list no shorter, and its first names the same
@@ -75,7 +78,8 @@ module _ (trace : List Entry) where
     longer : length (now .names m) ≤ length (later .names m)
     same : (k : ℕ) → k < length (now .names m) → getD (later .names m) k 0 ≡ getD (now .names m) k 0
 
-  later-same : (m : ℕ) (now next : Book) → next .releases m ≡ now .releases m → next .names m ≡ now .names m → Later m now next
+  later-same : (m : ℕ) (now next : Book) → next .releases m ≡ now .releases m → next .names m ≡ now .names m →
+      Later m now next
   later-same m now next r n = record { count = omega (arith, r); longer = rw n (omega arith); same = λ k h. rw n }
 
   later-next : (m j : ℕ) → Later m (bookAt trace j) (bookAt trace (suc j))
@@ -109,7 +113,8 @@ module _ (trace : List Entry) where
   -- ---- locks executed and completed
 
   -- after a lock its mutex's list has one name more, the thread's
-  after-lock : (m k i : ℕ) → Executes trace m k i → bookAt trace (suc i) .names m ≡ bookAt trace i .names m ++ entryAt trace i .thread ∷ []
+  after-lock : (m k i : ℕ) → Executes trace m k i →
+      bookAt trace (suc i) .names m ≡ bookAt trace i .names m ++ entryAt trace i .thread ∷ []
   after-lock m k i x = by-event (next m i (x .carried))
     where
       by-event : Feeds m (bookAt trace i) (bookAt trace (suc i)) (entryAt trace i .thread) (entryAt trace i .event) →
@@ -142,13 +147,15 @@ module _ (trace : List Entry) where
   pub numbered : (m k l i j : ℕ) → Executes trace m k i → Executes trace m l j → i < j → k < l
   numbered m k l i j x y h = omega (arith, after-length m k i x, later m (suc i) j h .longer, y .number)
 
-  pub named : (m k i j : ℕ) → Executes trace m k i → i < j → getD (bookAt trace j .names m) k 0 ≡ entryAt trace i .thread
+  pub named : (m k i j : ℕ) → Executes trace m k i → i < j →
+      getD (bookAt trace j .names m) k 0 ≡ entryAt trace i .thread
   named m k i j x h =
       later m (suc i) j h .same k (omega (arith, after-length m k i x))
       ∙ rw (after-lock m k i x) (getD-at (bookAt trace i .names m) (entryAt trace i .thread) [] 0 k (x .number))
 
   -- a lock that was first left, and is so again later, was so in between
-  between : (m k i j l : ℕ) → FirstLeft (bookAt trace i) m k → FirstLeft (bookAt trace l) m k → i ≤ j → j ≤ l → FirstLeft (bookAt trace j) m k
+  between : (m k i j l : ℕ) → FirstLeft (bookAt trace i) m k → FirstLeft (bookAt trace l) m k → i ≤ j → j ≤ l →
+      FirstLeft (bookAt trace j) m k
   between m k i j l a b h g =
       let x = later m i j h in
       let y = later m j l g in
@@ -240,7 +247,8 @@ module _ (trace : List Entry) where
         (λ c. by-event (omega arith) (before .0) (before .1) c (next m j c))
         (λ c. rw (book-past j c) before))
       where
-        by-event : a ≤ j → Has (bookAt trace j) m t → bookAt trace j .releases m ≡ bookAt trace a .releases m → j < length trace →
+        by-event : a ≤ j → Has (bookAt trace j) m t → bookAt trace j .releases m ≡ bookAt trace a .releases m →
+            j < length trace →
             Feeds m (bookAt trace j) (bookAt trace (suc j)) (entryAt trace j .thread) (entryAt trace j .event) →
             Has (bookAt trace (suc j)) m t × (bookAt trace (suc j) .releases m ≡ bookAt trace a .releases m)
         by-event from mine same c (locked e r n) =
@@ -258,10 +266,12 @@ module _ (trace : List Entry) where
             absurd (quiet j (omega arith) g (λ i. record { thread = me i; event = e i }))
         by-event from mine same c (neither l u r n) = ((mine .0, rw (r, n) (mine .1)), r ∙ same)
 
-    pub still-has : (m t a b : ℕ) → Has (bookAt trace a) m t → Unreleased trace m t a b → (j : ℕ) → a ≤ j → j ≤ b → Has (bookAt trace j) m t
+    pub still-has : (m t a b : ℕ) → Has (bookAt trace a) m t → Unreleased trace m t a b → (j : ℕ) → a ≤ j → j ≤ b →
+        Has (bookAt trace j) m t
     still-has m t a b has quiet j h g = still m t a b has quiet j h g .0
 
-    pub none-completes : (m t a b : ℕ) → Has (bookAt trace a) m t → Unreleased trace m t a b → (k j : ℕ) → a ≤ j → j < b → ¬ Completes trace m k j
+    pub none-completes : (m t a b : ℕ) → Has (bookAt trace a) m t → Unreleased trace m t a b → (k j : ℕ) → a ≤ j →
+        j < b → ¬ Completes trace m k j
     none-completes m t a b has quiet k j h g c =
         let now = still m t a b has quiet j h (omega arith) in
         let then = still m t a b has quiet (suc j) (omega arith) g in

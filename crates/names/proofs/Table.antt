@@ -75,12 +75,14 @@ right k h =
     }
 
 -- the bytes of the table that `words::find` finds for an opcode
-pub part-is : (l : List ℕ) (k start r : ℕ) → l ≡ table → k < 41 → start ≡ 10 * k → r ≡ start + length (upTo 32 (drop start l)) → take (r - start) (drop start l) ≡ nameOf k
+pub part-is : (l : List ℕ) (k start r : ℕ) → l ≡ table → k < 41 → start ≡ 10 * k →
+    r ≡ start + length (upTo 32 (drop start l)) → take (r - start) (drop start l) ≡ nameOf k
 part-is l k start r is h at e =
     part 32 l start r e ∙ rw (is, at) (right k h .entry)
 
 -- a name that is read is the name of the opcode it was read as
-pub named-from : (k : ℕ) (ns : List (List ℕ)) (word : List ℕ) (opcode : ℕ) → namedFrom k ns word ≡ Opcode opcode → (k ≤ opcode) × (opcode < k + length ns) × (getD ns (opcode - k) [] ≡ word)
+pub named-from : (k : ℕ) (ns : List (List ℕ)) (word : List ℕ) (opcode : ℕ) → namedFrom k ns word ≡ Opcode opcode →
+    (k ≤ opcode) × (opcode < k + length ns) × (getD ns (opcode - k) [] ≡ word)
 unfolding namedFrom
 named-from k [] word opcode e = impossible cc
 named-from k (name ∷ rest) word opcode e = by (same name word) refl e (named-from (suc k) rest word opcode)
@@ -105,14 +107,16 @@ named-is word opcode e =
 
 -- the namedFrom from k on, by the name there
 module _ (word : List ℕ) (k : ℕ) (h : k < 41) where
-  at-name : namedFrom k (drop k names) word ≡ cond (same (nameOf k) word) (Opcode k) (namedFrom (k + 1) (drop (k + 1) names) word)
+  at-name : namedFrom k (drop k names) word
+      ≡ cond (same (nameOf k) word) (Opcode k) (namedFrom (k + 1) (drop (k + 1) names) word)
   unfolding namedFrom
   at-name = rw (add-one, drop-cons names k [] (omega (arith, h, all-named)))
 
   pub hit : same (nameOf k) word ≡ true → namedFrom k (drop k names) word ≡ Opcode k
   hit e = at-name ∙ rw e
 
-  pub miss : same (nameOf k) word ≡ false → namedFrom k (drop k names) word ≡ namedFrom (k + 1) (drop (k + 1) names) word
+  pub miss : same (nameOf k) word ≡ false →
+      namedFrom k (drop k names) word ≡ namedFrom (k + 1) (drop (k + 1) names) word
   miss e = at-name ∙ rw e
 
 pub none-left : (word : List ℕ) (k : ℕ) → 41 ≤ k → namedFrom k (drop k names) word ≡ Unknown

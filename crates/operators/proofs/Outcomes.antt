@@ -76,7 +76,8 @@ module _ (size n : ℕ) (s : State) where
         exec size n s (instructionOf op k) ≡ done (combined size n s result)
     binary-in h e inside = binary-is ∙ needs-met 2 _ _ h ∙ rw e (fits-in _ _ inside)
 
-  pub compare-is : (op : ℕ) (k : ℤ) → 15 ≤ op → op ≤ 18 → exec size n s (instructionOf op k) ≡ compared size n s (tested op)
+  pub compare-is : (op : ℕ) (k : ℤ) → 15 ≤ op → op ≤ 18 →
+      exec size n s (instructionOf op k) ≡ compared size n s (tested op)
   unfolding instructionOf tested
   compare-is op k low high =
       same-or-not op 15 (λ e. rw e (eq-is size n s))

@@ -19,7 +19,8 @@ use Rattle.machine.specs.WellFormed.{shortfall}
 use Rattle.passing.specs.Contract.{leaves}
 
 -- a step leaves what its instruction's outcome does
-pub lands : (size n : ℕ) (s : State) (i : Instruction) (o : Outcome) → exec size n (onward s) i ≡ o → leaves s o ≡ executed size n s i .state
+pub lands : (size n : ℕ) (s : State) (i : Instruction) (o : Outcome) → exec size n (onward s) i ≡ o →
+    leaves s o ≡ executed size n s i .state
 lands size n s i o e = by-outcome o ∙ sym (ap (λ (x : Outcome). entered size s (onward s) i x .state) e)
   where
     by-outcome : (x : Outcome) → leaves s x ≡ entered size s (onward s) i x .state
@@ -52,11 +53,13 @@ pub waits : (size n : ℕ) (s : State) (k : ℕ) (count : ℤ) → ltZ count (po
     blocked size (withCount size (popped size n s 1) k count) (atSemaphore size k) ≡ lowered size n s k count
 waits size n s k count e = rw e
 
-pub goes-on : (size n : ℕ) (s : State) (k : ℕ) (count : ℤ) → ltZ count (pos 0) ≡ false → withCount size (popped size n s 1) k count ≡ lowered size n s k count
+pub goes-on : (size n : ℕ) (s : State) (k : ℕ) (count : ℤ) → ltZ count (pos 0) ≡ false →
+    withCount size (popped size n s 1) k count ≡ lowered size n s k count
 goes-on size n s k count e = rw e
 
 -- a count that no more threads than there are wait for can be lowered
-pub lowered-fits : (v : ℤ) (size : ℕ) → mag v < 2147483648 → shortfall v ≤ size → size ≤ 32 → mag (v -ℤ pos 1) < 2147483648
+pub lowered-fits : (v : ℤ) (size : ℕ) → mag v < 2147483648 → shortfall v ≤ size → size ≤ 32 →
+    mag (v -ℤ pos 1) < 2147483648
 lowered-fits (pos a) size h low small =
     less-or-not a 1
     (λ none. rw (lt-ltb a 1 none) (omega arith))

@@ -95,7 +95,8 @@ pub record Seen (whole rest : List ℕ) (seen : List Bool) : Type 0 where
 pub seen-none : (l : List ℕ) → Seen l l (replicate 32 false)
 seen-none l = record { room = refl; so = λ t h. rw (getD-replicate 32 t false false h) (omega arith) }
 
-module _ (whole l : List ℕ) (i : ℕ) (seen : List Bool) (s : Seen whole (drop i l) seen) (h : i < length l) (small : getD l i 0 < 32) where
+module _ (whole l : List ℕ) (i : ℕ) (seen : List Bool) (s : Seen whole (drop i l) seen) (h : i < length l)
+    (small : getD l i 0 < 32) where
   -- one that was seen before occurs twice
   pub seen-twice : getD seen (getD l i 0) false ≡ true → eqb (count (getD l i 0) whole) 1 ≡ false
   seen-twice e =
@@ -120,7 +121,8 @@ module _ (whole l : List ℕ) (i : ℕ) (seen : List Bool) (s : Seen whole (drop
       }
 
 -- at the end of a list of the right length each was seen
-pub seen-all : (size : ℕ) (whole l : List ℕ) (i : ℕ) (seen : List Bool) → size ≤ 32 → length whole ≡ size → allBelow size whole ≡ true →
+pub seen-all : (size : ℕ) (whole l : List ℕ) (i : ℕ) (seen : List Bool) → size ≤ 32 → length whole ≡ size →
+    allBelow size whole ≡ true →
     length l ≤ i → Seen whole (drop i l) seen → every size (λ t. eqb (count t whole) 1) ≡ true
 seen-all size whole l i seen small long below end s =
     true-every size (λ t. eqb (count t whole) 1)

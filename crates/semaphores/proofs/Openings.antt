@@ -25,7 +25,8 @@ module _ (size n : ℕ) (s : State) where
   ranged (negsuc k) h = refl
 
   -- newsema with its cell
-  pub newsema-opens : (o : Opening) → 1 ≤ s .regs .cells → mag (top size s) < 2147483648 → openingOf (top size s) 2147483648 (s .regs .semaphores) size ≡ o →
+  pub newsema-opens : (o : Opening) → 1 ≤ s .regs .cells → mag (top size s) < 2147483648 →
+      openingOf (top size s) 2147483648 (s .regs .semaphores) size ≡ o →
       exec size n s instr.newsema ≡ opened o (λ _. done (semaphoreMade size n s (top size s))) (done (replaced size n s minusOne)) 30
   newsema-opens o one h e =
       newsema-is size n s ∙ needs-met 1 (s .regs .cells) (opening size n s (top size s)) one ∙ ranged (top size s) h

@@ -14,7 +14,8 @@ pub record Filled (A : Type 0) (l : List A) (f : ℕ → A) (d : A) (i : ℕ) : 
 pub none-filled : {A : Type 0} {l : List A} {f : ℕ → A} {d : A} → Filled A l f d 0
 none-filled = record { so = λ k h. absurd (omega arith) }
 
-pub one-filled : {A : Type 0} {l : List A} {f : ℕ → A} {d : A} {i : ℕ} (v : A) → i < length l → v ≡ f i → Filled A l f d i → Filled A (set l i v) f d (i + 1)
+pub one-filled : {A : Type 0} {l : List A} {f : ℕ → A} {d : A} {i : ℕ} (v : A) → i < length l → v ≡ f i →
+    Filled A l f d i → Filled A (set l i v) f d (i + 1)
 one-filled {l = l} {f = f} {d = d} {i = i} v h e filled =
     record {
       so =
@@ -25,6 +26,7 @@ one-filled {l = l} {f = f} {d = d} {i = i} v h e filled =
     }
 
 -- a list filled with one value
-pub all-same : {A : Type 0} {l : List A} {v d : A} {i : ℕ} (n : ℕ) → length l ≡ n → n ≤ i → Filled A l (λ k. v) d i → l ≡ replicate n v
+pub all-same : {A : Type 0} {l : List A} {v d : A} {i : ℕ} (n : ℕ) → length l ≡ n → n ≤ i → Filled A l (λ k. v) d i →
+    l ≡ replicate n v
 all-same {l = l} {v = v} {d = d} n e h filled =
     ext-getD d l (replicate n v) (e ∙ sym (length-replicate n v)) (λ k below. filled .so k (omega arith) ∙ sym (getD-replicate n k v d (omega arith)))

@@ -78,7 +78,8 @@ module _ (size : ℕ) (some : 1 ≤ size) where
       ∙ sym (rw (ne-eqb i 0 (omega arith), le-ltb i (4 * size) (omega arith), le-ltb i (6 * size) k)))
 
   -- a slice with these numbers is the start's
-  pub start-slice : (l : List ℕ) → length l ≡ 7 * size → ((i : ℕ) → i < 7 * size → getD l i 0 ≡ startAt size i) → l ≡ sliceOf (startTables size)
+  pub start-slice : (l : List ℕ) → length l ≡ 7 * size → ((i : ℕ) → i < 7 * size → getD l i 0 ≡ startAt size i) →
+      l ≡ sliceOf (startTables size)
   start-slice l e f =
       ext-getD 0 l (front ++ free ++ upTo size)
       (e ∙ sym (length-append (front ++ free) (upTo size) ∙ rw (long, length-up-to size) (omega arith)))

@@ -25,12 +25,14 @@ use Rattle.tables.proofs.Waking.{head}
 -- ---- a search that starts behind some
 
 -- those at a place are all kept behind the ones that aren't there
-kept-behind : (tables : Tables) (place k : ℕ) (l : List ℕ) → behind tables place k l → keep (isAt tables place) l ≡ keep (isAt tables place) (drop k l)
+kept-behind : (tables : Tables) (place k : ℕ) (l : List ℕ) → behind tables place k l →
+    keep (isAt tables place) l ≡ keep (isAt tables place) (drop k l)
 kept-behind tables place zero l h = refl
 kept-behind tables place (suc k) [] h = refl
 kept-behind tables place (suc k) (t ∷ rest) h = keep-out (isAt tables place) t rest (h .0) ∙ kept-behind tables place k rest (h .1)
 
-pub search-behind : (size : ℕ) (l : List ℕ) (place skip : ℕ) → Behind (tablesOf size l) place skip → first (tablesOf size l) place ≡ searched size l place skip
+pub search-behind : (size : ℕ) (l : List ℕ) (place skip : ℕ) → Behind (tablesOf size l) place skip →
+    first (tablesOf size l) place ≡ searched size l place skip
 unfolding tablesOf first queue
 search-behind size l place skip h =
     ap firstOf
@@ -49,12 +51,14 @@ idle-behind tables place skip h high = behind-idle tables place skip (tables .li
 
 -- ---- one more that doesn't live
 
-idle-more : (tables : Tables) (k : ℕ) (l : List ℕ) → idle tables k l → lives tables (getD l k 0) ≡ false → idle tables (suc k) l
+idle-more : (tables : Tables) (k : ℕ) (l : List ℕ) → idle tables k l → lives tables (getD l k 0) ≡ false →
+    idle tables (suc k) l
 idle-more tables k [] h next = tt
 idle-more tables zero (t ∷ rest) h next = (next, tt)
 idle-more tables (suc k) (t ∷ rest) h next = (h .0, idle-more tables k rest (h .1) next)
 
-pub idle-on : (size : ℕ) (l : List ℕ) (k i : ℕ) → Good size l → k < size → i ≡ 6 * size + k → getD l (getD l i 0) 0 ≤ ended → Idle (tablesOf size l) k → Idle (tablesOf size l) (k + 1)
+pub idle-on : (size : ℕ) (l : List ℕ) (k i : ℕ) → Good size l → k < size → i ≡ 6 * size + k →
+    getD l (getD l i 0) 0 ≤ ended → Idle (tablesOf size l) k → Idle (tablesOf size l) (k + 1)
 unfolding tablesOf
 idle-on size l k i g below e low h =
     let entry : getD (drop (6 * size) l) k 0 ≡ getD l i 0 = getD-drop (6 * size) l k 0 ∙ ap (λ (j : ℕ). getD l j 0) (sym e) in
@@ -71,7 +75,8 @@ pub active-lives : (tables : Tables) (t : ℕ) → placeOf tables t ≡ active �
 active-lives tables t e = place-lives tables t active e (omega arith)
 
 -- and who is found at a place of the living
-pub found-lives : (tables : Tables) (place : ℕ) (t : Thread) → first tables place ≡ Waiter t → 1 < place → lives tables (t .0) ≡ true
+pub found-lives : (tables : Tables) (place : ℕ) (t : Thread) → first tables place ≡ Waiter t → 1 < place →
+    lives tables (t .0) ≡ true
 found-lives tables place t e high =
     let h = head tables place t e in
     place-lives tables (t .0) place (first-at tables place (t .0) (h .rest) (h .is)) high
@@ -96,7 +101,8 @@ module _ (tables : Tables) (t : ℕ) (live : lives tables t ≡ true) where
   idle-after k h = λ place. idle-sent place k h
 
 -- only places and line count: they stay where registers are saved, or a mutex gets an owner
-idle-same : (tables tables′ : Tables) (k : ℕ) (l : List ℕ) → tables′ .places ≡ tables .places → idle tables k l → idle tables′ k l
+idle-same : (tables tables′ : Tables) (k : ℕ) (l : List ℕ) → tables′ .places ≡ tables .places → idle tables k l →
+    idle tables′ k l
 idle-same tables tables′ zero l same h = tt
 idle-same tables tables′ (suc k) [] same h = tt
 idle-same tables tables′ (suc k) (t ∷ rest) same h = (rw same (h .0), idle-same tables tables′ k rest same (h .1))
@@ -110,7 +116,8 @@ unfolding owned
 idle-owned tables m o k h = idle-same tables (owned tables m o) k (tables .line) refl h
 
 -- and where a thread goes, its registers saved
-pub idle-left : (tables : Tables) (t pc cells fp place k : ℕ) → IdleAfter tables t k → Idle (sent (saved tables t pc cells fp) t place) k
+pub idle-left : (tables : Tables) (t pc cells fp place k : ℕ) → IdleAfter tables t k →
+    Idle (sent (saved tables t pc cells fp) t place) k
 unfolding saved sent
 idle-left tables t pc cells fp place k h =
     idle-same (sent tables t place) (sent (saved tables t pc cells fp) t place) k (toEnd t (tables .line)) refl (h place)

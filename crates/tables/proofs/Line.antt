@@ -31,7 +31,8 @@ abbrev without : ℕ → List ℕ → List ℕ
 without i l = take i l ++ drop (suc i) l
 
 -- the move, by where t stands: with t put behind the line, its old entry is left out
-moved-at : (t : ℕ) (l : List ℕ) (from i : ℕ) → from ≤ i → i < length l → getD l i 0 ≡ t → count t (drop from l) ≡ 1 → endMoved l from t ≡ without i (l ++ t ∷ [])
+moved-at : (t : ℕ) (l : List ℕ) (from i : ℕ) → from ≤ i → i < length l → getD l i 0 ≡ t → count t (drop from l) ≡ 1 →
+    endMoved l from t ≡ without i (l ++ t ∷ [])
 unfolding toEnd
 moved-at t [] from i low high here once = absurd (omega arith)
 moved-at t (x ∷ l) (suc from) zero low high here once = absurd (omega arith)
@@ -76,7 +77,8 @@ pub record Walked (was : List ℕ) (t : ℕ) (l : List ℕ) (carried i : ℕ) : 
 pub walk-start : (l : List ℕ) (t : ℕ) → Walked l t l t (length l)
 walk-start l t = record { is = last-out t l; hand = last-is t l; passed = ap (count t) (drop-of-length-le l {i = length l} (omega arith)) ∙ count-nil t }
 
-module _ (was : List ℕ) (t : ℕ) (l : List ℕ) (carried i j : ℕ) (w : Walked was t l carried i) (next : i ≡ suc j) (h : j < length was) where
+module _ (was : List ℕ) (t : ℕ) (l : List ℕ) (carried i j : ℕ) (w : Walked was t l carried i) (next : i ≡ suc j)
+    (h : j < length was) where
   -- what is met is the old line's
   met : getD l j 0 ≡ getD was j 0
   met = rw (w .is, next, before-gap (was ++ t ∷ []) j) (List·getD-append was (t ∷ []) 0 j h)
@@ -95,7 +97,8 @@ module _ (was : List ℕ) (t : ℕ) (l : List ℕ) (carried i j : ℕ) (w : Walk
       }
 
   -- at t the walk is over
-  pub walk-met : (from : ℕ) → from ≤ j → count t (drop from was) ≡ 1 → getD l j 0 ≡ t → set l j carried ≡ endMoved was from t
+  pub walk-met : (from : ℕ) → from ≤ j → count t (drop from was) ≡ 1 → getD l j 0 ≡ t →
+      set l j carried ≡ endMoved was from t
   walk-met from low once here = put ∙ sym (moved-at t was from j low h (sym met ∙ here) once)
 
 -- a walk that stops with t in hand: it goes on with what was walked so far, or is over
@@ -113,7 +116,8 @@ module _ (was : List ℕ) (from t : ℕ) where
   ahead i low once none = same-or-not from i (λ e. absurd (omega (arith, once, rw (← e) at none))) (λ e. omega (arith, low, e))
 
   -- a place further
-  step : (l : List ℕ) (carried i j : ℕ) → length l ≡ length was → from ≤ j → count t (drop from was) ≡ 1 → Walked was t l carried i → i ≡ suc j → j < length was →
+  step : (l : List ℕ) (carried i j : ℕ) → length l ≡ length was → from ≤ j → count t (drop from was) ≡ 1 →
+      Walked was t l carried i → i ≡ suc j → j < length was →
       Walking was from t (set l j carried) (getD l j 0) j
   step l carried i j long low once w next h =
       record {
@@ -125,10 +129,12 @@ module _ (was : List ℕ) (from t : ℕ) where
         over = λ here. walk-met was t l carried i j w next h from low once here;
       }
 
-  pub walking-start : (j : ℕ) → length was ≡ suc j → from ≤ j → count t (drop from was) ≡ 1 → Walking was from t (set was j t) (getD was j 0) j
+  pub walking-start : (j : ℕ) → length was ≡ suc j → from ≤ j → count t (drop from was) ≡ 1 →
+      Walking was from t (set was j t) (getD was j 0) j
   walking-start j next low once = step was t (length was) j refl low once (walk-start was t) next (omega (arith, next))
 
-  pub walking-on : (l : List ℕ) (carried i j : ℕ) → Walking was from t l carried i → carried ≢ t → i ≡ suc j → Walking was from t (set l j carried) (getD l j 0) j
+  pub walking-on : (l : List ℕ) (carried i j : ℕ) → Walking was from t l carried i → carried ≢ t → i ≡ suc j →
+      Walking was from t (set l j carried) (getD l j 0) j
   walking-on l carried i j w away next =
       let below = ahead i (w .low) (w .once) (w .on away .passed) in
       step l carried i j (w .long) (omega (arith, below, next)) (w .once) (w .on away) next (omega (arith, w .high, next))
@@ -143,17 +149,20 @@ length-moved l from t =
 -- ---- the tables after a move
 
 -- what stands before the line
-prefix : (l x : List ℕ) (a b c : ℕ) → a + b ≤ c → c ≤ length l → take b (drop a (take c l ++ x)) ≡ take b (drop a (take c l))
+prefix : (l x : List ℕ) (a b c : ℕ) → a + b ≤ c → c ≤ length l →
+    take b (drop a (take c l ++ x)) ≡ take b (drop a (take c l))
 prefix l x a b c h k =
     let long : length (take c l) ≡ c = length-take-le c l k in
     ap (take b) (drop-append-le a (take c l) x (omega arith))
     ∙ take-append-le b (drop a (take c l)) x (omega (arith, length-drop a (take c l)))
 
-before-line : (l x : List ℕ) (a b c : ℕ) → a + b ≤ c → c ≤ length l → take b (drop a (take c l ++ x)) ≡ take b (drop a l)
+before-line : (l x : List ℕ) (a b c : ℕ) → a + b ≤ c → c ≤ length l →
+    take b (drop a (take c l ++ x)) ≡ take b (drop a l)
 before-line l x a b c h k = prefix l x a b c h k ∙ sym (prefix l (drop c l) a b c h k) ∙ ap (λ (m : List ℕ). take b (drop a m)) (take-append-drop c l)
 
 -- a thread's new place, and the line with it at the end
-pub store-sent : (size : ℕ) (l : List ℕ) (t p : ℕ) → length l ≡ 7 * size → t < size → tablesOf size (endMoved (set l t p) (6 * size) t) ≡ sent (tablesOf size l) t p
+pub store-sent : (size : ℕ) (l : List ℕ) (t p : ℕ) → length l ≡ 7 * size → t < size →
+    tablesOf size (endMoved (set l t p) (6 * size) t) ≡ sent (tablesOf size l) t p
 unfolding tablesOf sent
 store-sent size l t p long h =
     let m : List ℕ = set l t p in
@@ -172,11 +181,13 @@ store-sent size l t p long h =
     }
 
 -- a new place leaves a thread once in the line
-pub once-in-line : (size : ℕ) (l : List ℕ) (t p : ℕ) → Good size l → t < size → count t (drop (6 * size) (set l t p)) ≡ 1
+pub once-in-line : (size : ℕ) (l : List ℕ) (t p : ℕ) → Good size l → t < size →
+    count t (drop (6 * size) (set l t p)) ≡ 1
 unfolding tablesOf
 once-in-line size l t p g h = ap (count t) (drop-set-lt (6 * size) l t p (omega arith)) ∙ g .line .once t h
 
-pub sent-left : (size : ℕ) (l l′ : List ℕ) (t p : ℕ) → Good size l → t < size → l′ ≡ endMoved (set l t p) (6 * size) t → Left size l′ (sent (tablesOf size l) t p)
+pub sent-left : (size : ℕ) (l l′ : List ℕ) (t p : ℕ) → Good size l → t < size → l′ ≡ endMoved (set l t p) (6 * size) t →
+    Left size l′ (sent (tablesOf size l) t p)
 sent-left size l l′ t p g h e =
     let is : tablesOf size l′ ≡ sent (tablesOf size l) t p = ap (tablesOf size) e ∙ store-sent size l t p (g .long) h in
     record {
@@ -228,7 +239,8 @@ module _ (size : ℕ) (l : List ℕ) (g : Good size l) where
     next : 6 * size + (k + 1) ≡ suc i
     next = omega (arith, e)
 
-    pub entry-in : getD l (getD l i 0) 0 ≡ place → remaining size l place k ≡ getD l i 0 ∷ remaining size l place (k + 1)
+    pub entry-in : getD l (getD l i 0) 0 ≡ place →
+        remaining size l place k ≡ getD l i 0 ∷ remaining size l place (k + 1)
     entry-in h =
         rw (next, ← e, drop-cons l i 0 (omega (arith, g .long)), keep-in (isAt (tablesOf size l) place) (getD l i 0) (drop (suc i) l) (at-entry ∙ eq-eqb _ _ h))
 

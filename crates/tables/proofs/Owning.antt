@@ -16,7 +16,8 @@ module _ (size number : ℕ) where
   pub unowned : ownerAt size number ≡ owner.Nobody → number ≡ size
   unowned e = by-test (eqb number size) refl e
     where
-      by-test : (b : Bool) → eqb number size ≡ b → cond b owner.Nobody (owner.Thread (record { 0 = number })) ≡ owner.Nobody → number ≡ size
+      by-test : (b : Bool) → eqb number size ≡ b →
+          cond b owner.Nobody (owner.Thread (record { 0 = number })) ≡ owner.Nobody → number ≡ size
       by-test true h k = eqb-true number size h
       by-test false h k = absurd (let z : _≡_ {A = ℕ} 0 1 = cc in omega arith)
 
@@ -31,6 +32,7 @@ module _ (size number : ℕ) where
   pub held : (t : Thread) → ownerAt size number ≡ owner.Thread t → Held t
   held t e = by-test (eqb number size) refl e
     where
-      by-test : (b : Bool) → eqb number size ≡ b → cond b owner.Nobody (owner.Thread (record { 0 = number })) ≡ owner.Thread t → Held t
+      by-test : (b : Bool) → eqb number size ≡ b →
+          cond b owner.Nobody (owner.Thread (record { 0 = number })) ≡ owner.Thread t → Held t
       by-test true h k = absurd (let z : _≡_ {A = ℕ} 0 1 = cc in omega arith)
       by-test false h k = record { by = ap (numberOf size) k; taken = eqb-false number size h }

@@ -90,7 +90,8 @@ module _ (size : ℕ) (l : List ℕ) where
       })
 
   -- tables whose line is as it was are in order
-  pub still-good : (l′ : List ℕ) (tables : Tables) → Good size l → tablesOf size l′ ≡ tables → tables .line ≡ tablesOf size l .line → length l′ ≡ length l → Left size l′ tables
+  pub still-good : (l′ : List ℕ) (tables : Tables) → Good size l → tablesOf size l′ ≡ tables →
+      tables .line ≡ tablesOf size l .line → length l′ ≡ length l → Left size l′ tables
   still-good l′ tables g is same long =
       record {
         is = is;

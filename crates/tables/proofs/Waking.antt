@@ -38,7 +38,8 @@ none tables place e = by-queue (queue tables place) refl
     by-queue (s ∷ rest) k = absurd (let z : Waiter (record { 0 = s }) ≡ Nobody = sym (first-waiter tables place s rest k) ∙ e in let w : _≡_ {A = ℕ} 0 1 = cc in omega arith)
 
 -- what a queue gave, and the tables without it
-module _ (size : ℕ) (l l′ : List ℕ) (from : ℕ) (answer first′ : First) (d : Dequeued size l from answer l′) (e : answer ≡ first′) where
+module _ (size : ℕ) (l l′ : List ℕ) (from : ℕ) (answer first′ : First) (d : Dequeued size l from answer l′)
+    (e : answer ≡ first′) where
   pub took-first : first (tablesOf size l) from ≡ first′
   took-first = sym (d .found) ∙ e
 
@@ -46,9 +47,11 @@ module _ (size : ℕ) (l l′ : List ℕ) (from : ℕ) (answer first′ : First)
   took-tables = d .left .is ∙ ap (λ (a : First). taken a (tablesOf size l)) e
 
 -- what becomes of the one that was taken out
-module _ (size : ℕ) (l l₁ : List ℕ) (from : ℕ) (answer : First) (g : Good size l) (d : Dequeued size l from answer l₁) where
+module _ (size : ℕ) (l l₁ : List ℕ) (from : ℕ) (answer : First) (g : Good size l)
+    (d : Dequeued size l from answer l₁) where
   -- it is then sent on: that is one move
-  pub sent-on : (t : Thread) (p : ℕ) → answer ≡ Waiter t → sent (tablesOf size l₁) (t .0) p ≡ sent (tablesOf size l) (t .0) p
+  pub sent-on : (t : Thread) (p : ℕ) → answer ≡ Waiter t →
+      sent (tablesOf size l₁) (t .0) p ≡ sent (tablesOf size l) (t .0) p
   sent-on t p e =
       ap (λ (x : Tables). sent x (t .0) p) (took-tables size l l₁ from answer (Waiter t) d e)
       ∙ sent-again (tablesOf size l) (t .0) active p (g .line .once (t .0) (d .real t e))
@@ -68,7 +71,8 @@ module _ (size : ℕ) (l l₁ : List ℕ) (from : ℕ) (answer : First) (g : Goo
     pub same : wakeAll (tablesOf size l) from ≡ wakeAll (tablesOf size l′) from
     pub fewer : length (queue (tablesOf size l′) from) < length (queue (tablesOf size l) from)
 
-  pub woke : (l′ : List ℕ) (t : Thread) → 3 < from → answer ≡ Waiter t → tablesOf size l′ ≡ sent (tablesOf size l₁) (t .0) ready → Woke l′
+  pub woke : (l′ : List ℕ) (t : Thread) → 3 < from → answer ≡ Waiter t →
+      tablesOf size l′ ≡ sent (tablesOf size l₁) (t .0) ready → Woke l′
   unfolding allReady
   woke l′ t high e went =
       let before : Tables = tablesOf size l in

@@ -11,7 +11,8 @@ use Rattle.cells.proofs.Opened.{opened, opens}
 use Rattle.cells.proofs.Tests.{needs-met}
 
 -- create with its two cells
-pub creates : (size n : ℕ) (s : State) (o : Opening) → 2 ≤ s .regs .cells → openingOf (below size s) n (s .regs .threads) size ≡ o →
+pub creates : (size n : ℕ) (s : State) (o : Opening) → 2 ≤ s .regs .cells →
+    openingOf (below size s) n (s .regs .threads) size ≡ o →
     exec size n s instr.create ≡ opened o (λ entry. done (created size n s entry)) (done (combined size n s minusOne)) 25
 creates size n s o two h =
     create-is size n s ∙ needs-met 2 (s .regs .cells) (creating size n s) two

@@ -18,12 +18,14 @@ use Rattle.tables.proofs.Idle.{found-lives, idle-after, idle-left, idle-sent}
 use Rattle.threads.specs.Contract.{Goes}
 
 -- the running thread goes
-idle-leaves : (size k : ℕ) (s : State) (place : ℕ) → IdleAfter (s .tables) (s .regs .thread) k → Idle (left size s place .tables) k
+idle-leaves : (size k : ℕ) (s : State) (place : ℕ) → IdleAfter (s .tables) (s .regs .thread) k →
+    Idle (left size s place .tables) k
 unfolding left
 idle-leaves size k s place h = idle-left (s .tables) (s .regs .thread) (s .regs .pc) (s .regs .cells) (s .regs .fp) place k h
 
 -- the same in slices
-pub idle-gone : (size k place : ℕ) (tables tables′ : List ℕ) (r q : Registers) → Goes size (λ s. left size s place) tables r tables′ q →
+pub idle-gone : (size k place : ℕ) (tables tables′ : List ℕ) (r q : Registers) →
+    Goes size (λ s. left size s place) tables r tables′ q →
     IdleAfter (tablesOf size tables) (r .thread) k → Idle (tablesOf size tables′) k
 idle-gone size k place tables tables′ r q went h =
     rw (ap (λ (s : State). s .tables) (went .is [] [])) (idle-leaves size k (at [] (tablesOf size tables) [] r) place h)
@@ -38,9 +40,11 @@ idle-next size k s h = by-first (first (s .tables) ready) refl
     by-first Nobody e = h
 
 -- a living thread waits at a place
-pub idle-blocked : (size k : ℕ) (s : State) (place : ℕ) → lives (s .tables) (s .regs .thread) ≡ true → Idle (s .tables) k → Idle (blocked size s place .tables) k
+pub idle-blocked : (size k : ℕ) (s : State) (place : ℕ) → lives (s .tables) (s .regs .thread) ≡ true →
+    Idle (s .tables) k → Idle (blocked size s place .tables) k
 idle-blocked size k s place live h =
     idle-next size k (left size s place) (idle-leaves size k s place (idle-after (s .tables) (s .regs .thread) live k h))
 
-pub idle-yield : (size n k : ℕ) (s : State) → lives (s .tables) (s .regs .thread) ≡ true → Idle (s .tables) k → Idle (executed size n s instr.yield .state .tables) k
+pub idle-yield : (size n k : ℕ) (s : State) → lives (s .tables) (s .regs .thread) ≡ true → Idle (s .tables) k →
+    Idle (executed size n s instr.yield .state .tables) k
 idle-yield size n k s live h = rw (← carries size n s instr.yield _ (yield-is size n (onward s))) (idle-blocked size k (onward s) ready live h)

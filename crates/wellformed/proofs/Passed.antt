@@ -23,7 +23,8 @@ pub valued : (size : ℕ) (l : List ℕ) (values : List ℤ) → tablesFit size 
 valued size l values sizes = eqb-true (length values) (2 * size) (and-second (eqb (length l) (7 * size)) (eqb (length values) (2 * size)) sizes)
 
 -- what passed the tests is what the functions on tables ask
-pub good : (size : ℕ) (l : List ℕ) (values : List ℤ) → size ≤ 32 → tablesFit size l values ≡ true → lineFits size (tablesOf size l .line) ≡ true → Good size l
+pub good : (size : ℕ) (l : List ℕ) (values : List ℤ) → size ≤ 32 → tablesFit size l values ≡ true →
+    lineFits size (tablesOf size l .line) ≡ true → Good size l
 good size l values small sizes e =
     let line : List ℕ = tablesOf size l .line in
     let once : ℕ → Bool = λ t. eqb (count t line) 1 in

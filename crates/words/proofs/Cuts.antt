@@ -28,7 +28,8 @@ same-self (b ∷ bs) = rw (eq-eqb b b refl) (same-self bs)
 
 -- ---- a text by its first separator, at p
 
-pub cut : (sep : ℕ) (l : List ℕ) (p : ℕ) → p ≡ length (upTo sep l) → p < length l → split sep l ≡ take p l ∷ split sep (drop (suc p) l)
+pub cut : (sep : ℕ) (l : List ℕ) (p : ℕ) → p ≡ length (upTo sep l) → p < length l →
+    split sep l ≡ take p l ∷ split sep (drop (suc p) l)
 unfolding split upTo
 cut sep [] p e h = absurd (omega (arith, h))
 cut sep (b ∷ rest) p e h = by (eqb b sep) refl e (cut sep rest (length (upTo sep rest)) refl)
@@ -72,11 +73,13 @@ unfolding upTo
 taken sep [] = refl
 taken sep (b ∷ rest) = by (eqb b sep) (taken sep rest)
   where
-    by : (t : Bool) → take (length (upTo sep rest)) rest ≡ upTo sep rest → take (length (cond t [] (b ∷ upTo sep rest))) (b ∷ rest) ≡ cond t [] (b ∷ upTo sep rest)
+    by : (t : Bool) → take (length (upTo sep rest)) rest ≡ upTo sep rest →
+        take (length (cond t [] (b ∷ upTo sep rest))) (b ∷ rest) ≡ cond t [] (b ∷ upTo sep rest)
     by true e = refl
     by false e = ap (λ (l : List ℕ). b ∷ l) e
 
-pub part : (sep : ℕ) (l : List ℕ) (at r : ℕ) → r ≡ at + length (upTo sep (drop at l)) → take (r - at) (drop at l) ≡ upTo sep (drop at l)
+pub part : (sep : ℕ) (l : List ℕ) (at r : ℕ) → r ≡ at + length (upTo sep (drop at l)) →
+    take (r - at) (drop at l) ≡ upTo sep (drop at l)
 part sep l at r e =
     let size : r - at ≡ length (upTo sep (drop at l)) = omega (arith, e) in
     rw size (taken sep (drop at l))
@@ -109,7 +112,8 @@ unfolding lacks split
 two sep [] e = impossible cc
 two sep (b ∷ rest) e = by (eqb b sep) e (two sep rest)
   where
-    by : (t : Bool) → (not t && lacks sep rest) ≡ false → (lacks sep rest ≡ false → Two (split sep rest)) → Two (cond t ([] ∷ split sep rest) (onto b (split sep rest)))
+    by : (t : Bool) → (not t && lacks sep rest) ≡ false → (lacks sep rest ≡ false → Two (split sep rest)) →
+        Two (cond t ([] ∷ split sep rest) (onto b (split sep rest)))
     by true q later =
         let p = parts sep rest in
         record { first = []; second = p .first; others = p .others; are = ap (λ (ps : List (List ℕ)). [] ∷ ps) (p .are) }
@@ -119,7 +123,8 @@ two sep (b ∷ rest) e = by (eqb b sep) e (two sep rest)
 
 -- ---- put together again
 
-join-onto : (sep b : ℕ) (first : List ℕ) (others : List (List ℕ)) → join sep ((b ∷ first) ∷ others) ≡ b ∷ join sep (first ∷ others)
+join-onto : (sep b : ℕ) (first : List ℕ) (others : List (List ℕ)) →
+    join sep ((b ∷ first) ∷ others) ≡ b ∷ join sep (first ∷ others)
 unfolding join
 join-onto sep b first [] = refl
 join-onto sep b first (next ∷ others) = refl
@@ -129,7 +134,8 @@ unfolding join split
 join-split sep [] = refl
 join-split sep (b ∷ rest) = by (eqb b sep) refl (parts sep rest) (join-split sep rest)
   where
-    by : (t : Bool) → eqb b sep ≡ t → (p : Parts (split sep rest)) → join sep (split sep rest) ≡ rest → join sep (cond t ([] ∷ split sep rest) (onto b (split sep rest))) ≡ b ∷ rest
+    by : (t : Bool) → eqb b sep ≡ t → (p : Parts (split sep rest)) → join sep (split sep rest) ≡ rest →
+        join sep (cond t ([] ∷ split sep rest) (onto b (split sep rest))) ≡ b ∷ rest
     by true t p e = rw (p .are) (rw (eqb-true b sep t) (ap (λ (l : List ℕ). sep ∷ l) (rw (p .are) at e)))
     by false t p e = rw (p .are) (join-onto sep b (p .first) (p .others) ∙ ap (λ (l : List ℕ). b ∷ l) (rw (p .are) at e))
 
@@ -138,7 +144,8 @@ abbrev pub AllLack : ℕ → List (List ℕ) → Type 0
 AllLack sep [] = Unit
 AllLack sep (part ∷ parts) = (lacks sep part ≡ true) × AllLack sep parts
 
-pub split-join : (sep : ℕ) (first : List ℕ) (others : List (List ℕ)) → AllLack sep (first ∷ others) → split sep (join sep (first ∷ others)) ≡ first ∷ others
+pub split-join : (sep : ℕ) (first : List ℕ) (others : List (List ℕ)) → AllLack sep (first ∷ others) →
+    split sep (join sep (first ∷ others)) ≡ first ∷ others
 unfolding join
 split-join sep first [] h = part-alone sep first (h .0)
 split-join sep first (next ∷ others) h = part-first sep first (join sep (next ∷ others)) (h .0) ∙ ap (λ (ps : List (List ℕ)). first ∷ ps) (split-join sep next others (h .1))
@@ -151,7 +158,8 @@ lacks-append sep (c ∷ rest) b e h =
     true-and (not (eqb c sep)) (lacks sep (rest ++ b)) (both .0) (lacks-append sep rest b (both .1) h)
 
 -- a text of parts lacks another separator that none of them has
-pub lacks-join : (sep other : ℕ) (first : List ℕ) (others : List (List ℕ)) → eqb sep other ≡ false → AllLack other (first ∷ others) → lacks other (join sep (first ∷ others)) ≡ true
+pub lacks-join : (sep other : ℕ) (first : List ℕ) (others : List (List ℕ)) → eqb sep other ≡ false →
+    AllLack other (first ∷ others) → lacks other (join sep (first ∷ others)) ≡ true
 unfolding join lacks
 lacks-join sep other first [] ne h = h .0
 lacks-join sep other first (next ∷ others) ne h = lacks-append other first (sep ∷ join sep (next ∷ others)) (h .0) (rw ne (lacks-join sep other next others ne (h .1)))

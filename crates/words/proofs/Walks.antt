@@ -19,7 +19,8 @@ module _ (sep : ℕ) (text : List ℕ) (i : ℕ) where
   unfolding upTo
   at-sep h e = rw (drop-cons text i 0 h, eq-eqb _ _ e) (omega arith)
 
-  pub past-byte : i < length text → getD text i 0 ≢ sep → i + length (upTo sep (drop i text)) ≡ (i + 1) + length (upTo sep (drop (i + 1) text))
+  pub past-byte : i < length text → getD text i 0 ≢ sep →
+      i + length (upTo sep (drop i text)) ≡ (i + 1) + length (upTo sep (drop (i + 1) text))
   unfolding upTo
   past-byte h ne = rw (add-one, drop-cons text i 0 h, ne-eqb _ _ ne) (omega arith)
 

@@ -30,7 +30,8 @@ half-written a b ha hb =
     let second : (a * 256 + b) % 256 ≡ b = omega arith in
     λ i. first i ∷ second i ∷ []
 
-word-written : (a b c d : ℕ) → a < 256 → b < 256 → c < 256 → d < 256 → wordBytes (wordAt (a ∷ b ∷ c ∷ d ∷ []) 0) ≡ a ∷ b ∷ c ∷ d ∷ []
+word-written : (a b c d : ℕ) → a < 256 → b < 256 → c < 256 → d < 256 →
+    wordBytes (wordAt (a ∷ b ∷ c ∷ d ∷ []) 0) ≡ a ∷ b ∷ c ∷ d ∷ []
 word-written a b c d ha hb hc hd =
     let w : ℕ = wordAt (a ∷ b ∷ c ∷ d ∷ []) 0 in
     let first : w / 65536 / 256 % 256 ≡ a = omega arith in
@@ -56,7 +57,8 @@ words-written (a ∷ b ∷ c ∷ d ∷ s) (suc n) h e =
     (ap (λ (l : List ℕ). l ++ s) (word-written a b c d (h 0) (h 1) (h 2) (h 3)))
 
 -- an image that was written is accepted
-accept-image : (cells : ℕ) (list : List ℕ) → InRange cells → InRange (length list) → Each 4294967296 list → firstBad (lastOf (length list)) 0 list ≡ Fine → Accepts (imageOf cells list) cells
+accept-image : (cells : ℕ) (list : List ℕ) → InRange cells → InRange (length list) → Each 4294967296 list →
+    firstBad (lastOf (length list)) 0 list ≡ Fine → Accepts (imageOf cells list) cells
 accept-image cells list c n w good =
     let following : followingOf (imageOf cells list) ≡ 5 + 4 * length list = word-read (5 + 4 * length list) (1 ∷ halfBytes cells ++ halfBytes (length list) ++ wordsBytes list) (omega arith) in
     let globals : cellsOf (imageOf cells list) ≡ cells = omega arith in
@@ -95,7 +97,8 @@ nine image h =
     ∙ ap (λ (l : List ℕ). getD image 7 0 ∷ l) (at 8 (omega arith)))))))))
 
 -- the image of what was read from an accepted image
-image-again : (image : List ℕ) (cells : ℕ) → Each 256 image → Accepts image cells → imageOf cells (wordsOf (drop 9 image)) ≡ image
+image-again : (image : List ℕ) (cells : ℕ) → Each 256 image → Accepts image cells →
+    imageOf cells (wordsOf (drop 9 image)) ≡ image
 image-again image cells h a =
     let code : length (drop 9 image) ≡ 4 * countOf image = omega (arith, length-drop 9 image, a .long .follows, a .sized .exact) in
     let n : length (wordsOf (drop 9 image)) ≡ countOf image = count (drop 9 image) (countOf image) code in
@@ -113,7 +116,8 @@ written-is-read cells size list buffer h e = again _ (take-at (imageOf cells lis
     w : Writes cells list (length buffer) size
     w = writes cells list (length buffer) size e
 
-    again : (image : List ℕ) → image ≡ imageOf cells list → (readOf image ≡ gives cells) × (wordsOf (codeOf image) ≡ list)
+    again : (image : List ℕ) → image ≡ imageOf cells list →
+        (readOf image ≡ gives cells) × (wordsOf (codeOf image) ≡ list)
     again image is =
         let read : readOf image ≡ gives cells = rw is (accepted (imageOf cells list) cells (accept-image cells list (w .globals) (w .count) h (w .good))) in
         (read, rw (code-part image cells read, is) (words-read list h))

@@ -21,7 +21,9 @@ length-image cells ws = omega (arith, length-bytes ws)
 
 module _ (ws out : List ℕ) (i : ℕ) where
   -- one word of a list is stored, and the rest is left
-  pub one-more : i < length ws → sets out (9 + 4 * i) (wordsBytes (drop i ws)) ≡ sets (sets out (9 + 4 * i) (wordBytes (getD ws i 0))) (9 + 4 * (i + 1)) (wordsBytes (drop (i + 1) ws))
+  pub one-more : i < length ws →
+      sets out (9 + 4 * i) (wordsBytes (drop i ws))
+      ≡ sets (sets out (9 + 4 * i) (wordBytes (getD ws i 0))) (9 + 4 * (i + 1)) (wordsBytes (drop (i + 1) ws))
   unfolding wordsBytes
   one-more h =
       let four : suc (suc (suc (suc (9 + 4 * i)))) ≡ 9 + 4 * suc i = omega arith in

@@ -15,10 +15,12 @@ use Rattle.instruction.proofs.check.Statement.{statement}
 use Rattle.instruction.proofs.check.Tie as tie
 
 -- the verdict on an instruction with a known opcode, from the answer on its operand
-judged : (last : ℤ) (w op : ℕ) (b : Bool) → op ≡ opcodeOf w → ltb 40 op ≡ false → b ≡ allows (ruleOf op) last (operandOf w) → cond b Fine BadOperand ≡ checkOf last w
+judged : (last : ℤ) (w op : ℕ) (b : Bool) → op ≡ opcodeOf w → ltb 40 op ≡ false →
+    b ≡ allows (ruleOf op) last (operandOf w) → cond b Fine BadOperand ≡ checkOf last w
 judged last w op b e h a = rw (← e, h, ← a)
 
-answered : (c : tie.After-permits) → c .permits .result ≡ allows (ruleOf (c .before .before .before .opcode .result)) (c .before .before .before .before .args .last) (operandOf (c .before .before .before .before .args .w))
+answered : (c : tie.After-permits) →
+    c .permits .result ≡ allows (ruleOf (c .before .before .before .opcode .result)) (c .before .before .before .before .args .last) (operandOf (c .before .before .before .before .args .w))
 answered c =
     rw (← (c .before .before .rule-of .ensures), ← (c .before .operand .ensures))
     (rw (toZ-ofZ (c .before .before .before .before .fits .last), toZ-ofZ (sfits-of {w = w32} {z = c .before .operand .result} (c .before .operand .ok))) at (c .permits .ensures))

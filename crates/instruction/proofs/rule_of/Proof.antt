@@ -20,7 +20,8 @@ is-pair op k low high =
     (eq-or-lt-of-le low)
 
 -- an opcode that no rule names
-zero : (op : ℕ) → (op ≡ 1 → ⊥) → (op ≡ 4 → ⊥) → (op ≡ 5 → ⊥) → (op ≡ 6 → ⊥) → (op ≡ 20 → ⊥) → (op ≡ 21 → ⊥) → Zero ≡ ruleOf op
+zero : (op : ℕ) → (op ≡ 1 → ⊥) → (op ≡ 4 → ⊥) → (op ≡ 5 → ⊥) → (op ≡ 6 → ⊥) → (op ≡ 20 → ⊥) → (op ≡ 21 → ⊥) →
+    Zero ≡ ruleOf op
 zero op a b c d e f = rw (ne-eqb op 4 b, ne-eqb op 5 c, ne-eqb op 6 d, ne-eqb op 20 e, ne-eqb op 21 f, ne-eqb op 1 a)
 
 returns : tie.Need-returns

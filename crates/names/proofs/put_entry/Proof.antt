@@ -11,7 +11,8 @@ use Rattle.names.proofs.Table.{part-is, right, table-length}
 use Rattle.names.proofs.put_entry.Statement.{statement}
 use Rattle.names.proofs.put_entry.Tie as tie
 
-spelled : (c : tie.After-find) → take (c .find .result - 10 * (c .before .before .before .args .opcode)) (drop (10 * (c .before .before .before .args .opcode)) (now (c .before .before .before .args .entries))) ≡ nameOf (c .before .before .before .args .opcode)
+spelled : (c : tie.After-find) →
+    take (c .find .result - 10 * (c .before .before .before .args .opcode)) (drop (10 * (c .before .before .before .args .opcode)) (now (c .before .before .before .args .entries))) ≡ nameOf (c .before .before .before .args .opcode)
 spelled c = part-is (now (c .before .before .before .args .entries)) (c .before .before .before .args .opcode) (10 * (c .before .before .before .args .opcode)) (c .find .result) (c .before .before .before .pre .0) (c .before .before .before .pre .1 .0) refl (c .find .ensures .0)
 
 find-requires : tie.Need-find-requires

@@ -22,7 +22,9 @@ sub-lowered : tie.Need-sub-lowered
 sub-lowered c = rw (read-back (c .count .ok) refl) (sfits-of {w = w32} {z = c .count .result -ℤ pos 1} (lowered-fits (c .count .result) (c .before .before .before .args .size) (c .count .ok) (rw (c .count .ensures) (c .before .before .before .pre .1 .1 .1 .0)) (c .before .before .before .pre .0 .small)))
 
 -- the count that is left
-lowered : (c : tie.After-count) → toZ w32 (ofZ w32 (toZ w32 (ofZ w32 (c .count .result)) -ℤ pos 1)) ≡ semaphoreCount (c .before .before .before .args .size) (now (c .before .before .before .args .values)) (c .before .before .before .args .k .0) -ℤ pos 1
+lowered : (c : tie.After-count) →
+    toZ w32 (ofZ w32 (toZ w32 (ofZ w32 (c .count .result)) -ℤ pos 1))
+    ≡ semaphoreCount (c .before .before .before .args .size) (now (c .before .before .before .args .values)) (c .before .before .before .args .k .0) -ℤ pos 1
 lowered c = toZ-ofZ (sub-lowered c) ∙ ap (λ (z : ℤ). z -ℤ pos 1) (read-back (c .count .ok) (c .count .ensures))
 
 block-requires : tie.Need-block-requires

@@ -21,13 +21,15 @@ record Grown (buf part : List ℕ) (done more : ℕ) : Type 0 where
   within : done + more ≤ length buf
   same : length (putMid done (length buf - done) buf part) ≡ length buf
 
-grown : (buf part : List ℕ) (done more : ℕ) → length part ≡ length (midOf done (length buf - done) buf) → more ≤ length part → done ≤ length buf → Grown buf part done more
+grown : (buf part : List ℕ) (done more : ℕ) → length part ≡ length (midOf done (length buf - done) buf) →
+    more ≤ length part → done ≤ length buf → Grown buf part done more
 grown buf part done more kept inside start = record {
   within = omega (arith, inside, kept ∙ mid-len done (length buf) buf (omega arith), start);
   same = same-len-mid done (length buf - done) buf part kept;
 }
 
-read : (c : tie.After-struct-known Inv-loop μ-loop) → Grown (c .before .before .before .before .before .before .loop .buf) (c .before .before .before .read-some .last .0) (c .before .before .before .before .before .before .loop .length) (c .before .before .before .read-some .result .length)
+read : (c : tie.After-struct-known Inv-loop μ-loop) →
+    Grown (c .before .before .before .before .before .before .loop .buf) (c .before .before .before .read-some .last .0) (c .before .before .before .before .before .before .loop .length) (c .before .before .before .read-some .result .length)
 read c = grown _ _ _ _ (c .before .before .before .read-some .kept .0) (c .before .before .before .read-some .ensures .0) (c .before .before .before .before .before .before .loop .inv .0)
 
 returns : tie.Need-returns Inv-loop μ-loop

@@ -9,7 +9,8 @@ use Rattle.text.proofs.Lines.{of}
 use Rattle.text.proofs.put_decimal.Statement.{statement}
 use Rattle.text.proofs.put_decimal.Tie as tie
 
-spelled : (c : tie.After-decimal) → take (c .decimal .result) (c .decimal .last .1 .0) ≡ decimal (c .before .before .before .args .n)
+spelled : (c : tie.After-decimal) →
+    take (c .decimal .result) (c .decimal .last .1 .0) ≡ decimal (c .before .before .before .args .n)
 spelled c = c .decimal .ensures .1 .1 ∙ decimal-is _ _ (omega (arith, c .before .before .before .fits .n)) (c .decimal .ensures .1 .0)
 
 put-bytes-requires : tie.Need-put-bytes-requires

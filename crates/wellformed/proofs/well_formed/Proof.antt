@@ -23,7 +23,8 @@ counted : (c : tie.Else3) → Made (c .before .before .before .before .before .b
 counted c = made _ _ (sym (c .before .before .before .registers-fit .ensures) ∙ not-false (c .before .before .before .registers-fit .result) (c .before .before .if2 .left))
 
 -- the values have their size
-sized : (c : tie.Else3) → length (now (c .before .before .before .before .before .before .before .args .values)) ≡ 2 * c .before .before .before .before .before .before .before .args .size
+sized : (c : tie.Else3) → length (now (c .before .before .before .before .before .before .before .args .values))
+    ≡ 2 * c .before .before .before .before .before .before .before .args .size
 sized c = valued (c .before .before .before .before .before .before .before .args .size) (now (c .before .before .before .before .before .before .before .args .tables)) (now (c .before .before .before .before .before .before .before .args .values)) (sym (c .before .before .before .before .before .sizes-fit .ensures) ∙ not-false (c .before .before .before .before .before .sizes-fit .result) (c .before .before .before .before .if1 .left))
 
 returns : tie.Need-returns

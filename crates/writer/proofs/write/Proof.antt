@@ -21,20 +21,24 @@ use Rattle.writer.proofs.write.Statement.{statement}
 use Rattle.writer.proofs.write.Tie as tie
 
 -- a refusal leaves the buffer
-keeps : (cells : ℕ) (list before : List ℕ) (number place : ℕ) → refuses number place ≡ writeOf cells list (length before) → Wrote cells list before (Refused number place) before
+keeps : (cells : ℕ) (list before : List ℕ) (number place : ℕ) →
+    refuses number place ≡ writeOf cells list (length before) → Wrote cells list before (Refused number place) before
 keeps cells list before number place e = record { answered = e; left = rw (← e) }
 
 -- success leaves the image and what was past it
-writes : (cells : ℕ) (list before : List ℕ) {after : List ℕ} {size : ℕ} → gives size ≡ writeOf cells list (length before) →
+writes : (cells : ℕ) (list before : List ℕ) {after : List ℕ} {size : ℕ} →
+    gives size ≡ writeOf cells list (length before) →
     after ≡ imageOf cells list ++ drop size before → Wrote cells list before (Written size) after
 writes cells list before e b = record { answered = e; left = rw (← e) b }
 
 -- number 3 is not given
-sizes-fine : (c : tie.Else2) → (outOfRange (c .before .before .before .before .before .before .args .cells) || outOfRange (length (now (c .before .before .before .before .before .before .args .list)))) ≡ false
+sizes-fine : (c : tie.Else2) →
+    (outOfRange (c .before .before .before .before .before .before .args .cells) || outOfRange (length (now (c .before .before .before .before .before .before .args .list)))) ≡ false
 sizes-fine c = rw (← (c .before .before .before .out-of-range .ensures), c .before .before .if1 .left, ← (c .before .out-of-range2 .ensures)) (c .if2 .left)
 
 -- what the search answered
-found : (c : tie.After-scan-words) → c .scan-words .result ≡ firstBad (lastOf (length (now (c .before .before .before .before .before .before .before .before .args .list)))) 0 (now (c .before .before .before .before .before .before .before .before .args .list))
+found : (c : tie.After-scan-words) →
+    c .scan-words .result ≡ firstBad (lastOf (length (now (c .before .before .before .before .before .before .before .before .args .list)))) 0 (now (c .before .before .before .before .before .before .before .before .args .list))
 found c =
     rw (← (c .before .last-of .ensures))
     (rw (toZ-ofZ (sfits-of {w = w32} {z = c .before .last-of .result} (c .before .last-of .ok))) at (c .scan-words .ensures))

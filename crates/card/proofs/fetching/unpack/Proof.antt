@@ -16,7 +16,8 @@ use Rattle.card.proofs.fetching.unpack.Tie as tie
 abbrev Filled : List ℕ → List ℕ → ℕ → Type 0
 Filled code words i = (j : ℕ) → j < i → getD words j 0 ≡ wordAt code (4 * j)
 
-filled : (code words : List ℕ) (i w : ℕ) → i < length words → w ≡ wordAt code (4 * i) → Filled code words i → Filled code (set words i w) (i + 1)
+filled : (code words : List ℕ) (i w : ℕ) → i < length words → w ≡ wordAt code (4 * i) → Filled code words i →
+    Filled code (set words i w) (i + 1)
 filled code words i w there is h j below = by-place (decLt j i)
   where
     by-place : Dec (j < i) → getD (set words i w) j 0 ≡ wordAt code (4 * j)

@@ -16,7 +16,8 @@ use Rattle.card.proofs.reader.read_code.Statement.{statement}
 use Rattle.card.proofs.reader.read_code.Tie as tie
 
 -- what the search answered, said of the image
-found : (c : tie.After-scan-code) → c .scan-code .result ≡ firstBad (lastOf (countOf (now (c .before .before .before .before .before .args .image)))) 0 (wordsOf (drop 9 (now (c .before .before .before .before .before .args .image))))
+found : (c : tie.After-scan-code) →
+    c .scan-code .result ≡ firstBad (lastOf (countOf (now (c .before .before .before .before .before .args .image)))) 0 (wordsOf (drop 9 (now (c .before .before .before .before .before .args .image))))
 found c =
     rw (← (c .before .before .before .half-at .ensures .0), ← (c .before .last-of .ensures), ← (rest 9 (now (c .before .before .before .before .before .args .image))))
     (rw (toZ-ofZ (sfits-of {w = w32} {z = c .before .last-of .result} (c .before .last-of .ok))) at (c .scan-code .ensures))

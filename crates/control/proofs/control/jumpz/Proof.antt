@@ -16,7 +16,8 @@ use Rattle.control.proofs.control.jumpz.Statement.{statement}
 use Rattle.control.proofs.control.jumpz.Tie as tie
 
 -- what the test of top answered, said of the cell
-tested : {x z : ℤ} {r b : Bool} → mag x < 2 ^ 31 → x ≡ z → r ≡ eqZ (toZ w32 (ofZ w32 x)) (pos 0) → r ≡ b → eqZ z (pos 0) ≡ b
+tested : {x z : ℤ} {r b : Bool} → mag x < 2 ^ 31 → x ≡ z → r ≡ eqZ (toZ w32 (ofZ w32 x)) (pos 0) → r ≡ b →
+    eqZ z (pos 0) ≡ b
 tested f e h t = sym (rw (read-back f e) at h) ∙ t
 
 returns : tie.Need-returns

@@ -61,10 +61,13 @@ abbrev stayed : Stays (put.ended .signature .params) (put.ended .kept)
 stayed = (writer-spent, (stay-none (λ _. usize) yes, (stay-none (λ _. usize) yes, (stay-none (λ _. u32) yes, tt))))
 
 -- the contract that the proof cites
-abbrev PieceAt : {M : Type 1} (𝓤 : URA M) (H : Heap 𝓤) (A : Atoms 𝓤) (mem : Memory → SProp 𝓤) (run : Routine → Fun 𝓤) → Contract 𝓤
+abbrev PieceAt : {M : Type 1} (𝓤 : URA M) (H : Heap 𝓤) (A : Atoms 𝓤) (mem : Memory → SProp 𝓤) (run : Routine → Fun 𝓤) →
+    Contract 𝓤
 PieceAt 𝓤 H A mem run = tripleOf 𝓤 H A piece-at.signature (piece-at.spec 𝓤 H A mem run)
 
-module _ {M : Type 1} (𝓤 : URA M) (H : Heap 𝓤) (A : Atoms 𝓤) (W : Given 𝓤 H A) (mem : Memory → SProp 𝓤) (run : Routine → Fun 𝓤) (κ : Lft) (q : Share) (b o : ℕ) (γ : GName) (ys : List ℕ) (n p m c : ℕ) (n-fits : n < 2 ^ 64) (p-fits : p < 2 ^ 64) (m-fits : m < 2 ^ 64) (c-fits : c < 2 ^ 32) where
+module _ {M : Type 1} (𝓤 : URA M) (H : Heap 𝓤) (A : Atoms 𝓤) (W : Given 𝓤 H A) (mem : Memory → SProp 𝓤)
+    (run : Routine → Fun 𝓤) (κ : Lft) (q : Share) (b o : ℕ) (γ : GName) (ys : List ℕ) (n p m c : ℕ)
+    (n-fits : n < 2 ^ 64) (p-fits : p < 2 ^ 64) (m-fits : m < 2 ^ 64) (c-fits : c < 2 ^ 32) where
   abbrev α : NamedLft
   α = record { mir = named 0; lft = κ }
 
@@ -102,7 +105,8 @@ module _ {M : Type 1} (𝓤 : URA M) (H : Heap 𝓤) (A : Atoms 𝓤) (W : Given
   abbrev to-piece-at : ℕ → GName → PieceAt 𝓤 H A mem run .Ghost
   to-piece-at ν δ = (((ν ∷ [], tt), (fullShare, tt), tt, (x δ ys, (n, (p, (m, (c, tt))))), (s ∷ [], (vint w64 n ∷ [], (vint w64 p ∷ [], (vint w64 m ∷ [], (vint w32 c ∷ [], tt)))))), tt)
 
-  goes : (ν : ℕ) (δ : GName) → n + pieceRoom ≤ length ys → ent 𝓤 (sep 𝓤 (A .lft (ν ∷ []) fullShare) (sem 𝓤 H A (MutSlice (named 0) (ν ∷ []) u8 .own (x δ ys) (s ∷ [])))) (PieceAt 𝓤 H A mem run .pre (to-piece-at ν δ))
+  goes : (ν : ℕ) (δ : GName) → n + pieceRoom ≤ length ys →
+      ent 𝓤 (sep 𝓤 (A .lft (ν ∷ []) fullShare) (sem 𝓤 H A (MutSlice (named 0) (ν ∷ []) u8 .own (x δ ys) (s ∷ [])))) (PieceAt 𝓤 H A mem run .pre (to-piece-at ν δ))
   goes ν δ within =
       qed W (‵ (flft (ν ∷ []) fullShare) ∷ ‵ (MutSlice (named 0) (ν ∷ []) u8 .own (x δ ys) (s ∷ [])) ∷ []) ∵ says ! within $ nothing ! $ move ! (1 ∷ 0 ∷ []) $ join ! $ frame ! $
       nothing ! $ owned ! u32 (Is u32) (uint-makes 𝓤 H A W w32) c _ (refl, c-fits) $ fjoin ! $ owned ! usize (Is usize) (uint-makes 𝓤 H A W w64) m _ (refl, m-fits) $ fjoin ! $ owned ! usize (Is usize) (uint-makes 𝓤 H A W w64) p _ (refl, p-fits) $ fjoin ! $ owned ! usize (Is usize) (uint-makes 𝓤 H A W w64) n _ (refl, n-fits) $ fjoin ! $ move ! (1 ∷ 0 ∷ []) $ fjoin ! $ done !
@@ -114,7 +118,8 @@ module _ {M : Type 1} (𝓤 : URA M) (H : Heap 𝓤) (A : Atoms 𝓤) (W : Given
   abbrev given-on : ℕ → List ℕ → List Val × (List Val × Unit {0}) → Fml
   given-on r zs vss = fsep (MutSlice (named 0) κ u8 .own (x γ zs) (vss .0)) (fsep (usize .own r (vss .1 .0)) ftrue)
 
-  exits : (r : ℕ) (zs : List ℕ) → Puts text ys n zs r → r ≤ n + pieceRoom → r < 2 ^ 64 → ent 𝓤 (sep 𝓤 (A .lft κ q) (sem 𝓤 H A (MutSlice (named 0) κ u8 .own (x γ zs) (s ∷ [])))) (Post (mach r))
+  exits : (r : ℕ) (zs : List ℕ) → Puts text ys n zs r → r ≤ n + pieceRoom → r < 2 ^ 64 →
+      ent 𝓤 (sep 𝓤 (A .lft κ q) (sem 𝓤 H A (MutSlice (named 0) κ u8 .own (x γ zs) (s ∷ [])))) (Post (mach r))
   exits r zs e near r-fits =
       qed W (‵ (flft κ q) ∷ ‵ (MutSlice (named 0) κ u8 .own (x γ zs) (s ∷ [])) ∷ []) ∵
       suffices ! _ (ends-at 𝓤 H A put.ended stayed (put.clauses 𝓤 H A mem run) W (((κ, tt), (q, tt), tt, a, vals), tt) (mach r) (record { out = x γ zs; at = r }) ((tt, tt), (tt, (tt, (tt, tt)))) ((tt, (tt, tt)), (tt, (tt, (tt, tt))))) $ says ! (λ i. record { out = x γ (e .written i); at = e .reached i }, near) $
@@ -125,8 +130,10 @@ module _ {M : Type 1} (𝓤 : URA M) (H : Heap 𝓤) (A : Atoms 𝓤) (W : Given
       use1 W (‵ (inStruct (MutSlice (named 0) κ u8 ∷ usize ∷ []) (mach n ∷ []) had)) (makes 𝓤 H A W (MutSlice (named 0) κ u8 ∷ usize ∷ []) had (s ∷ [], (vint w64 n ∷ [], tt))) $
       nothing ! $ owned ! u32 (Is u32) (uint-makes 𝓤 H A W w32) c _ (refl, c-fits) $ fjoin ! $ owned ! usize (Is usize) (uint-makes 𝓤 H A W w64) m _ (refl, m-fits) $ fjoin ! $ owned ! usize (Is usize) (uint-makes 𝓤 H A W w64) p _ (refl, p-fits) $ fjoin ! $ move ! (1 ∷ 0 ∷ []) $ fjoin ! $ done !
 
-  module _ (C : Calls 𝓤 H) (Λ : Loops 𝓤 H) (fm : FmC 𝓤 H (W .laws) C) (known : Triple 𝓤 (C #lister·lines·piece-at) (PieceAt 𝓤 H A mem run)) where
-    walk : Is (T.the-row α) h (mach n ∷ []) → Room u8 (length ys) → n + pieceRoom ≤ length ys → ent 𝓤 (onEntry 𝓤 H A put.signature (κ, tt) (q, tt) a vals) (WpFn 𝓤 H C Λ code.function (mach n ∷ vint w64 p ∷ vint w64 m ∷ vint w32 c ∷ []) Post)
+  module _ (C : Calls 𝓤 H) (Λ : Loops 𝓤 H) (fm : FmC 𝓤 H (W .laws) C)
+      (known : Triple 𝓤 (C #lister·lines·piece-at) (PieceAt 𝓤 H A mem run)) where
+    walk : Is (T.the-row α) h (mach n ∷ []) → Room u8 (length ys) → n + pieceRoom ≤ length ys →
+        ent 𝓤 (onEntry 𝓤 H A put.signature (κ, tt) (q, tt) a vals) (WpFn 𝓤 H C Λ code.function (mach n ∷ vint w64 p ∷ vint w64 m ∷ vint w32 c ∷ []) Post)
     walk g room within =
         qed W ((‵ (flft κ q) ⊛ ‵ ftrue) ∷ ‵ (owns (T.the-row α ∷ usize ∷ usize ∷ u32 ∷ []) a vals) ∷ []) ∵ enter ! C Λ code.function (mach n ∷ vint w64 p ∷ vint w64 m ∷ vint w32 c ∷ []) _ $
         alloc1 ! (λ l₀. alloc1 ! (λ l₁. alloc1 ! (λ l₂. alloc1 ! (λ l₃. alloc1 ! (λ l₄. alloc1 ! (λ l₅. alloc1 ! (λ l₆. alloc1 ! (λ l₇. alloc1 ! (λ l₈. alloc1 ! (λ l₉. alloc1 ! (λ l₁₀. alloc0 ! $ params1 ! $
@@ -158,15 +165,20 @@ module _ {M : Type 1} (𝓤 : URA M) (H : Heap 𝓤) (A : Atoms 𝓤) (W : Given
         move ! (28 ∷ 29 ∷ []) $ free1 ! $ move ! (26 ∷ 27 ∷ []) $ free1 ! $ move ! (24 ∷ 25 ∷ []) $ free1 ! $ move ! (22 ∷ 23 ∷ []) $ free1 ! $ move ! (20 ∷ 21 ∷ []) $ free1 ! $ move ! (18 ∷ 19 ∷ []) $ free1 ! $ move ! (16 ∷ 17 ∷ []) $ free1 ! $ move ! (14 ∷ 15 ∷ []) $ free1 ! $ move ! (12 ∷ 13 ∷ []) $ free1 ! $ move ! (10 ∷ 11 ∷ []) $ free1 ! $ move ! (8 ∷ 9 ∷ []) $ free1 ! $ free0 ! $
         keep ! (1 ∷ 0 ∷ []) $ by ! (exits r (zs .0) e near (is .1)))))))))))))))))))))))
 
-module _ {M : Type 1} (𝓤 : URA M) (H : Heap 𝓤) (A : Atoms 𝓤) (W : Given 𝓤 H A) (mem : Memory → SProp 𝓤) (run : Routine → Fun 𝓤) where
-  put-walks : (C : Calls 𝓤 H) (Λ : Loops 𝓤 H) → FmC 𝓤 H (W .laws) C → Triple 𝓤 (C #lister·lines·piece-at) (PieceAt 𝓤 H A mem run) → Walks 𝓤 H A put.ended stayed (WpFn 𝓤 H C Λ code.function) (put.clauses 𝓤 H A mem run)
+module _ {M : Type 1} (𝓤 : URA M) (H : Heap 𝓤) (A : Atoms 𝓤) (W : Given 𝓤 H A) (mem : Memory → SProp 𝓤)
+    (run : Routine → Fun 𝓤) where
+  put-walks : (C : Calls 𝓤 H) (Λ : Loops 𝓤 H) → FmC 𝓤 H (W .laws) C →
+      Triple 𝓤 (C #lister·lines·piece-at) (PieceAt 𝓤 H A mem run) →
+      Walks 𝓤 H A put.ended stayed (WpFn 𝓤 H C Λ code.function) (put.clauses 𝓤 H A mem run)
   put-walks C Λ fm known = walked 𝓤 H A put.ended stayed (put.clauses 𝓤 H A mem run) (WpFn 𝓤 H C Λ code.function)
       (λ κs. (LL.vals (T.the-type (namedLft 1 0 tt κs)) (T′.the-laws (namedLft 1 0 tt κs)), (uint-vals w64, (uint-vals w64, (uint-vals w32, tt))))) (λ κs. (LL.tells (T.the-type (namedLft 1 0 tt κs)) (T′.the-laws (namedLft 1 0 tt κs)), (uint-tells w64, (uint-tells w64, (uint-tells w32, tt)))))
       (λ κs qs bounds a g are. needs 𝓤 (a .0 .at + pieceRoom ≤ length (a .0 .out .now)) _ (λ within.
       let fields = LL.owed (T.the-type (namedLft 1 0 tt κs)) (T′.the-laws (namedLft 1 0 tt κs)) (a .0) _ (are .0) in
       walk 𝓤 H A W mem run (κs .0) (qs .0) (a .0 .out .ptr .0) (a .0 .out .ptr .1) (a .0 .out .name) (a .0 .out .now) (a .0 .at) (a .1 .0) (a .1 .1 .0) (a .1 .1 .1 .0) (fields .1 .0 .1) (are .1 .0 .1) (are .1 .1 .0 .1) (are .1 .1 .1 .0 .1) C Λ fm known (are .0) (fields .0 .0 .1) within))
 
-put-meets : {M : Type 1} (𝓤 : URA M) (H : Heap 𝓤) (A : Atoms 𝓤) → Given 𝓤 H A → (mem : Memory → SProp 𝓤) (run : Routine → Fun 𝓤) (𝓣 : Tables 𝓤 H) → Triple 𝓤 (𝓣 .C #lister·lines·piece-at) (PieceAt 𝓤 H A mem run)
+put-meets : {M : Type 1} (𝓤 : URA M) (H : Heap 𝓤) (A : Atoms 𝓤) → Given 𝓤 H A →
+    (mem : Memory → SProp 𝓤) (run : Routine → Fun 𝓤) (𝓣 : Tables 𝓤 H) →
+    Triple 𝓤 (𝓣 .C #lister·lines·piece-at) (PieceAt 𝓤 H A mem run)
     → Meets 𝓤 H A put.signature (WpFn 𝓤 H (𝓣 .C) (𝓣 .Λ) code.function) (put.spec 𝓤 H A mem run)
 put-meets 𝓤 H A W mem run 𝓣 known =
     walk-meets 𝓤 H A put.ended stayed W (writer-spent-goes 𝓤 H A W, (goes-none 𝓤 H A W 1 (λ _. usize) yes (λ κs x f. refl), (goes-none 𝓤 H A W 1 (λ _. usize) yes (λ κs x f. refl), (goes-none 𝓤 H A W 1 (λ _. u32) yes (λ κs x f. refl), tt)))) (put.clauses 𝓤 H A mem run)

@@ -78,14 +78,17 @@ module _ {M : Type 1} (𝓤 : URA M) (H : Heap 𝓤) (A : Atoms 𝓤) (mem : Mem
   Place = tripleOf 𝓤 H A place.signature (place.spec 𝓤 H A mem run)
 
   -- of the first two callees' `ensured`, the clause alone: neither has a last value
-  new-of : (κ : Lft) (x : RefT (List ℕ)) (r : Writer) → ent 𝓤 (ensured 𝓤 H A new.ended (new.clauses 𝓤 H A mem run) (κ, tt) (x, tt) tt r) (fact 𝓤 ((r .out ≡ x) × (r .at ≡ 0)))
+  new-of : (κ : Lft) (x : RefT (List ℕ)) (r : Writer) →
+      ent 𝓤 (ensured 𝓤 H A new.ended (new.clauses 𝓤 H A mem run) (κ, tt) (x, tt) tt r) (fact 𝓤 ((r .out ≡ x) × (r .at ≡ 0)))
   new-of κ x r = exE 𝓤 _ (λ ws. snd∗ 𝓤 (sem 𝓤 H A (lasts new.ended (κ, tt) (x, tt) ws)) (fact 𝓤 ((r .out ≡ x) × (r .at ≡ 0))))
 
   put-of : (κ : Lft) (h : Writer) (p m c : ℕ) (r : Writer)
       → ent 𝓤 (ensured 𝓤 H A put.ended (put.clauses 𝓤 H A mem run) (κ, tt) (h, (p, (m, (c, tt)))) tt r) (fact 𝓤 ((r ≡ lined h p m c) × (r .at ≤ h .at + pieceRoom)))
   put-of κ h p m c r = exE 𝓤 _ (λ ws. snd∗ 𝓤 (sem 𝓤 H A (lasts put.ended (κ, tt) (h, (p, (m, (c, tt)))) ws)) (fact 𝓤 ((r ≡ lined h p m c) × (r .at ≤ h .at + pieceRoom))))
 
-module _ {M : Type 1} (𝓤 : URA M) (H : Heap 𝓤) (A : Atoms 𝓤) (W : Given 𝓤 H A) (mem : Memory → SProp 𝓤) (run : Routine → Fun 𝓤) (κ : Lft) (q : Share) (b o : ℕ) (γ : GName) (ys : List ℕ) (m c : ℕ) (m-fits : m < 2 ^ 64) (c-fits : c < 2 ^ 32) where
+module _ {M : Type 1} (𝓤 : URA M) (H : Heap 𝓤) (A : Atoms 𝓤) (W : Given 𝓤 H A) (mem : Memory → SProp 𝓤)
+    (run : Routine → Fun 𝓤) (κ : Lft) (q : Share) (b o : ℕ) (γ : GName) (ys : List ℕ) (m c : ℕ) (m-fits : m < 2 ^ 64)
+    (c-fits : c < 2 ^ 32) where
   abbrev α : NamedLft
   α = record { mir = named 0; lft = κ }
 
@@ -179,8 +182,12 @@ module _ {M : Type 1} (𝓤 : URA M) (H : Heap 𝓤) (A : Atoms 𝓤) (W : Given
       suffices ! _ (ends-at 𝓤 H A put-one.ended stayed (put-one.clauses 𝓤 H A mem run) W (((κ, tt), (q, tt), tt, a, vals), tt) w r (zs, (tt, (tt, tt))) (l ∙ in-h .1, (tt, (tt, tt)))) $ says ! (is-line r zs e in-h) $ frame ! $
       nothing ! $ owned ! u32 (Is u32) (uint-makes 𝓤 H A W w32) c _ (refl, c-fits) $ fjoin ! $ owned ! usize (Is usize) (uint-makes 𝓤 H A W w64) m _ (refl, m-fits) $ fjoin ! $ move ! (1 ∷ 0 ∷ []) $ fjoin ! $ done !
 
-  module _ (C : Calls 𝓤 H) (Λ : Loops 𝓤 H) (fm : FmC 𝓤 H (W .laws) C) (known-new : Triple 𝓤 (C #lister·writer·new) (New 𝓤 H A mem run)) (known-put : Triple 𝓤 (C #lister·writer·put) (Put 𝓤 H A mem run)) (known-place : Triple 𝓤 (C #lister·writer·place) (Place 𝓤 H A mem run)) where
-    walk : Room u8 (length ys) → lineRoom ≤ length ys → ent 𝓤 (onEntry 𝓤 H A put-one.signature (κ, tt) (q, tt) a vals) (WpFn 𝓤 H C Λ code.function (s ∷ vint w64 m ∷ vint w32 c ∷ []) Post)
+  module _ (C : Calls 𝓤 H) (Λ : Loops 𝓤 H) (fm : FmC 𝓤 H (W .laws) C)
+      (known-new : Triple 𝓤 (C #lister·writer·new) (New 𝓤 H A mem run))
+      (known-put : Triple 𝓤 (C #lister·writer·put) (Put 𝓤 H A mem run))
+      (known-place : Triple 𝓤 (C #lister·writer·place) (Place 𝓤 H A mem run)) where
+    walk : Room u8 (length ys) → lineRoom ≤ length ys →
+        ent 𝓤 (onEntry 𝓤 H A put-one.signature (κ, tt) (q, tt) a vals) (WpFn 𝓤 H C Λ code.function (s ∷ vint w64 m ∷ vint w32 c ∷ []) Post)
     walk room enough =
         let in₀ : Within h₀ 0 = (omega arith, refl) in
         qed W ((‵ (flft κ q) ⊛ ‵ ftrue) ∷ ‵ (owns (MutSlice (named 0) κ u8 ∷ usize ∷ u32 ∷ []) a vals) ∷ []) ∵ enter ! C Λ code.function (s ∷ vint w64 m ∷ vint w32 c ∷ []) _ $
@@ -236,15 +243,19 @@ module _ {M : Type 1} (𝓤 : URA M) (H : Heap 𝓤) (A : Atoms 𝓤) (W : Given
         move ! (30 ∷ 31 ∷ []) $ free1 ! $ move ! (28 ∷ 29 ∷ []) $ free1 ! $ move ! (26 ∷ 27 ∷ []) $ free1 ! $ move ! (24 ∷ 25 ∷ []) $ free1 ! $ move ! (22 ∷ 23 ∷ []) $ free1 ! $ move ! (20 ∷ 21 ∷ []) $ free1 ! $ move ! (18 ∷ 19 ∷ []) $ free1 ! $ move ! (16 ∷ 17 ∷ []) $ free1 ! $ move ! (14 ∷ 15 ∷ []) $ free1 ! $ move ! (12 ∷ 13 ∷ []) $ free1 ! $ move ! (10 ∷ 11 ∷ []) $ free1 ! $ move ! (8 ∷ 9 ∷ []) $ free1 ! $ move ! (6 ∷ 7 ∷ []) $ free1 ! $ free0 ! $
         keep ! (1 ∷ 2 ∷ 0 ∷ []) $ by ! (exits r w (zs .0 .0) e in₃ l))))))))))))))))))))))))))))))))))))
 
-module _ {M : Type 1} (𝓤 : URA M) (H : Heap 𝓤) (A : Atoms 𝓤) (W : Given 𝓤 H A) (mem : Memory → SProp 𝓤) (run : Routine → Fun 𝓤) where
-  put-one-walks : (C : Calls 𝓤 H) (Λ : Loops 𝓤 H) → FmC 𝓤 H (W .laws) C → Triple 𝓤 (C #lister·writer·new) (New 𝓤 H A mem run) → Triple 𝓤 (C #lister·writer·put) (Put 𝓤 H A mem run) → Triple 𝓤 (C #lister·writer·place) (Place 𝓤 H A mem run)
+module _ {M : Type 1} (𝓤 : URA M) (H : Heap 𝓤) (A : Atoms 𝓤) (W : Given 𝓤 H A) (mem : Memory → SProp 𝓤)
+    (run : Routine → Fun 𝓤) where
+  put-one-walks : (C : Calls 𝓤 H) (Λ : Loops 𝓤 H) → FmC 𝓤 H (W .laws) C →
+      Triple 𝓤 (C #lister·writer·new) (New 𝓤 H A mem run) → Triple 𝓤 (C #lister·writer·put) (Put 𝓤 H A mem run) →
+      Triple 𝓤 (C #lister·writer·place) (Place 𝓤 H A mem run)
       → Walks 𝓤 H A put-one.ended stayed (WpFn 𝓤 H C Λ code.function) (put-one.clauses 𝓤 H A mem run)
   put-one-walks C Λ fm known-new known-put known-place = walked 𝓤 H A put-one.ended stayed (put-one.clauses 𝓤 H A mem run) (WpFn 𝓤 H C Λ code.function)
       (λ κs. (slice-vals, (uint-vals w64, (uint-vals w32, tt)))) (λ κs. (mut-slice-tells (named 0) (κs .0) u8, (uint-tells w64, (uint-tells w32, tt))))
       (λ κs qs bounds a g are. needs 𝓤 (lineRoom ≤ length (a .0 .now)) _ (λ enough.
       walk 𝓤 H A W mem run (κs .0) (qs .0) (a .0 .ptr .0) (a .0 .ptr .1) (a .0 .name) (a .0 .now) (a .1 .0) (a .1 .1 .0) (are .1 .0 .1) (are .1 .1 .0 .1) C Λ fm known-new known-put known-place (are .0 .0 .1) enough))
 
-put-one-meets : {M : Type 1} (𝓤 : URA M) (H : Heap 𝓤) (A : Atoms 𝓤) → Given 𝓤 H A → (mem : Memory → SProp 𝓤) (run : Routine → Fun 𝓤) (𝓣 : Tables 𝓤 H)
+put-one-meets : {M : Type 1} (𝓤 : URA M) (H : Heap 𝓤) (A : Atoms 𝓤) → Given 𝓤 H A →
+    (mem : Memory → SProp 𝓤) (run : Routine → Fun 𝓤) (𝓣 : Tables 𝓤 H)
     → Triple 𝓤 (𝓣 .C #lister·writer·new) (New 𝓤 H A mem run) → Triple 𝓤 (𝓣 .C #lister·writer·put) (Put 𝓤 H A mem run) → Triple 𝓤 (𝓣 .C #lister·writer·place) (Place 𝓤 H A mem run)
     → Meets 𝓤 H A put-one.signature (WpFn 𝓤 H (𝓣 .C) (𝓣 .Λ) code.function) (put-one.spec 𝓤 H A mem run)
 put-one-meets 𝓤 H A W mem run 𝓣 known-new known-put known-place =

@@ -30,7 +30,8 @@ abbrev result : tie.Start → ℤ
 result s = computed (s .args .op) (cell s 2) (cell s 1)
 
 -- the divisor was tested ..
-divisor : (c : tie.After-lacks-divisor) → c .lacks-divisor .result ≡ lacking (c .before .before .before .before .before .before)
+divisor : (c : tie.After-lacks-divisor) →
+    c .lacks-divisor .result ≡ lacking (c .before .before .before .before .before .before)
 divisor c =
     c .lacks-divisor .ensures
     ∙ ap (λ (b : ℤ). leb 12 (c .before .before .before .before .before .before .args .op) && eqZ b (pos 0)) (read-back (c .before .peek2 .ok) (c .before .peek2 .ensures))
@@ -39,7 +40,8 @@ there : (c : tie.Else2) → lacking (c .before .before .before .before .before .
 there c = sym (divisor (c .before)) ∙ c .if2 .left
 
 -- .. and the result was computed, and tested
-number : (c : tie.After-compute) → c .compute .result ≡ result (c .before .before .before .before .before .before .before .before)
+number : (c : tie.After-compute) →
+    c .compute .result ≡ result (c .before .before .before .before .before .before .before .before)
 number c =
     rw (read-back (c .before .before .before .before .before .peek .ok) (c .before .before .before .before .before .peek .ensures), read-back (c .before .before .before .peek2 .ok) (c .before .before .before .peek2 .ensures)) at (c .compute .ensures)
 

@@ -19,15 +19,18 @@ use Rattle.semaphores.proofs.making.newsema.Statement.{statement}
 use Rattle.semaphores.proofs.making.newsema.Tie as tie
 
 -- the starting count is a cell's value
-small : (c : tie.After-opening-for) → mag (getD (now (c .before .before .before .before .args .store)) (stackAt (c .before .before .before .before .args .size) (c .before .before .before .before .args .r .thread) (c .before .before .before .before .args .r .cells - 1)) (pos 0)) < 2147483648
+small : (c : tie.After-opening-for) →
+    mag (getD (now (c .before .before .before .before .args .store)) (stackAt (c .before .before .before .before .args .size) (c .before .before .before .before .args .r .thread) (c .before .before .before .before .args .r .cells - 1)) (pos 0)) < 2147483648
 small c = rw (c .before .peek .ensures) at (c .before .peek .ok)
 
 -- what was found
-opened : (c : tie.After-opening-for) → openingOf (getD (now (c .before .before .before .before .args .store)) (stackAt (c .before .before .before .before .args .size) (c .before .before .before .before .args .r .thread) (c .before .before .before .before .args .r .cells - 1)) (pos 0)) 2147483648 (c .before .before .before .before .args .r .semaphores) (c .before .before .before .before .args .size) ≡ c .opening-for .result
+opened : (c : tie.After-opening-for) →
+    openingOf (getD (now (c .before .before .before .before .args .store)) (stackAt (c .before .before .before .before .args .size) (c .before .before .before .before .args .r .thread) (c .before .before .before .before .args .r .cells - 1)) (pos 0)) 2147483648 (c .before .before .before .before .args .r .semaphores) (c .before .before .before .before .args .size) ≡ c .opening-for .result
 opened c = sym (rw (toZ-ofZ (sfits-of {w = w32} {z = c .before .peek .result} (c .before .peek .ok)), c .before .peek .ensures) at (c .opening-for .ensures))
 
 -- there is room for a semaphore
-room : (c : tie.After-enum-told3) → c .before .before .before .before .before .before .args .r .semaphores < c .before .before .before .before .before .before .args .size
+room : (c : tie.After-enum-told3) →
+    c .before .before .before .before .before .before .args .r .semaphores < c .before .before .before .before .before .before .args .size
 room c = has-room (getD (now (c .before .before .before .before .before .before .args .store)) (stackAt (c .before .before .before .before .before .before .args .size) (c .before .before .before .before .before .before .args .r .thread) (c .before .before .before .before .before .before .args .r .cells - 1)) (pos 0)) 2147483648 (c .before .before .before .before .before .before .args .r .semaphores) (c .before .before .before .before .before .before .args .size) _ (opened (c .before .before) ∙ c .enum-told3 .given .1)
 
 returns : tie.Need-returns

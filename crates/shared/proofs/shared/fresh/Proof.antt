@@ -25,7 +25,8 @@ module _ (size n : ℕ) (s : State) where
   none (pos k) e = let least : k < 1 = ltb-true k 1 e in rw (eq-eqb k 0 (omega arith))
   none (negsuc k) e = refl
 
-  left : (z : ℤ) → ltZ z (pos 1) ≡ false → shared size < s .regs .free + natAbs z → fresh size n s z ≡ done (replaced size n s (pos 0))
+  left : (z : ℤ) → ltZ z (pos 1) ≡ false → shared size < s .regs .free + natAbs z →
+      fresh size n s z ≡ done (replaced size n s (pos 0))
   unfolding fresh
   left (pos k) e h =
       let some : 1 ≤ k = ltb-false k 1 e in

@@ -17,7 +17,8 @@ some : (l : List ℕ) (from t : ℕ) → from ≤ length l → count t (drop fro
 some l from t low once = ahead l from t (length l) low once (walk-start l t .passed)
 
 -- .. and while t is not in hand, one is left
-left : {was : List ℕ} {from t : ℕ} {l : List ℕ} {carried i : ℕ} → Walking was from t l carried i → (carried ≡ t → ⊥) → from < i
+left : {was : List ℕ} {from t : ℕ} {l : List ℕ} {carried i : ℕ} → Walking was from t l carried i → (carried ≡ t → ⊥) →
+    from < i
 left w away = ahead _ _ _ _ (w .low) (w .once) (w .on away .passed)
 
 -- the slice before the first store

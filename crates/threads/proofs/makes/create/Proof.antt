@@ -19,11 +19,13 @@ use Rattle.threads.proofs.makes.create.Statement.{statement}
 use Rattle.threads.proofs.makes.create.Tie as tie
 
 -- what was found in the cell below the top
-below : (c : tie.After-opening-for) → openingOf (getD (now (c .before .before .before .before .before .args .store)) (stackAt (c .before .before .before .before .before .args .size) (c .before .before .before .before .before .args .r .thread) (c .before .before .before .before .before .args .r .cells - 2)) (pos 0)) (c .before .before .before .before .before .args .n) (c .before .before .before .before .before .args .r .threads) (c .before .before .before .before .before .args .size) ≡ c .opening-for .result
+below : (c : tie.After-opening-for) →
+    openingOf (getD (now (c .before .before .before .before .before .args .store)) (stackAt (c .before .before .before .before .before .args .size) (c .before .before .before .before .before .args .r .thread) (c .before .before .before .before .before .args .r .cells - 2)) (pos 0)) (c .before .before .before .before .before .args .n) (c .before .before .before .before .before .args .r .threads) (c .before .before .before .before .before .args .size) ≡ c .opening-for .result
 below c = sym (rw (toZ-ofZ (sfits-of {w = w32} {z = c .before .peek .result} (c .before .peek .ok)), c .before .peek .ensures) at (c .opening-for .ensures))
 
 -- there is room for a thread
-room : (c : tie.After-entry) → c .before .before .before .before .before .before .before .args .r .threads < c .before .before .before .before .before .before .before .args .size
+room : (c : tie.After-entry) →
+    c .before .before .before .before .before .before .before .args .r .threads < c .before .before .before .before .before .before .before .args .size
 room c = has-room (toZ w32 (ofZ w32 (c .before .before .before .peek .result))) (c .before .before .before .before .before .before .before .args .n) (c .before .before .before .before .before .before .before .args .r .threads) (c .before .before .before .before .before .before .before .args .size) _ (sym (c .before .before .opening-for .ensures) ∙ c .entry .given .1)
 
 returns : tie.Need-returns

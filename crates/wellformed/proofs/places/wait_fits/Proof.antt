@@ -12,7 +12,8 @@ use Rattle.wellformed.proofs.places.wait_fits.Statement.{statement}
 use Rattle.wellformed.proofs.places.wait_fits.Tie as tie
 
 -- the test, by what the place says
-found : (c : tie.After-awaited-at) (a : Awaited) → c .awaited-at .result ≡ a → waitFits (c .before .before .args .size) (c .before .before .args .r) (tablesOf (c .before .before .args .size) (now (c .before .before .args .tables))) (c .before .before .args .place) ≡ mayWait (c .before .before .args .size) (c .before .before .args .r) (tablesOf (c .before .before .args .size) (now (c .before .before .args .tables))) a
+found : (c : tie.After-awaited-at) (a : Awaited) → c .awaited-at .result ≡ a →
+    waitFits (c .before .before .args .size) (c .before .before .args .r) (tablesOf (c .before .before .args .size) (now (c .before .before .args .tables))) (c .before .before .args .place) ≡ mayWait (c .before .before .args .size) (c .before .before .args .r) (tablesOf (c .before .before .args .size) (now (c .before .before .args .tables))) a
 found c a e = waits (c .before .before .args .size) (c .before .before .args .r) (tablesOf (c .before .before .args .size) (now (c .before .before .args .tables))) (c .before .before .args .place) a (sym (c .awaited-at .ensures) ∙ e)
 
 returns : tie.Need-returns
