@@ -1,6 +1,7 @@
 -- Laws of the search for the first bad instruction, for a loop that has come to index i: it finds what the whole search finds.
 -- Assumes nothing.
-use Prim.Native.Nat.{ℕ, suc, _+_, _≤_, _<_}
+use Prim.Native.Nat.{ℕ, suc, _+_, _≤_, _<_, _%_}
+use mathlib.Core.Bool.{Bool, true, false}
 use mathlib.Core.Path.{_≡_}
 use mathlib.Core.List.{List, [], _∷_}
 use native.Mathlib.Numerals.{add-one}
@@ -8,9 +9,14 @@ use native.Mathlib.Omega.{arith}
 use lib.IntN.{ℤ}
 use lib.ListN.{length, getD, drop, drop-of-length-le}
 use lib.Seq.{drop-cons}
-use Rattle.instruction.specs.Rules.{checkOf}
-use Rattle.instruction.specs.declared.Verdict.{Verdict}
-use Rattle.instruction.specs.declared.Verdict.the-variants as verdict
+use Rattle.opcodes.specs.Page.{page, ruleOf}
+use Rattle.opcodes.specs.Rules.{allows}
+use Rattle.opcodes.specs.declared.table.Rule.{Rule}
+use Rattle.opcodes.proofs.Rows.{all-lines}
+use Rattle.instruction.specs.Rules.{Verdict, checkOf}
+use Rattle.instruction.specs.Rules as verdict
+use Rattle.instruction.specs.Word.{opcodeOf, operandOf, signed24}
+use Rattle.instruction.proofs.Checks.{against, fine, over}
 use Rattle.card.specs.Code.{firstBad, orElse, scanOf}
 use Rattle.card.specs.declared.scan.Scan.the-variants.{Fine, Bad}
 
@@ -39,15 +45,24 @@ module _ (last : ℤ) (ws : List ℕ) (i : ℕ) where
   unfolding firstBad
   ends h = rw (drop-of-length-le ws h)
 
-  -- a bad word ends the search
-  pub stops : (w number index : ℕ) → i < length ws → getD ws i 0 ≡ w → scanOf (checkOf last w) i ≡ Bad number index →
-      firstBad last i (drop i ws) ≡ Bad number index
-  stops w number index h e bad = rw (from h, e, bad)
+  module _ (w : ℕ) (there : i < length ws) (is : getD ws i 0 ≡ w) (op : ℕ) (its : op ≡ opcodeOf w) where
+    -- a bad word ends the search, by its opcode ..
+    pub unknown : length page ≤ op → firstBad last i (drop i ws) ≡ Bad 4 i
+    unknown h = rw (from there, is, over last w (omega (arith, h, its, all-lines)))
 
-  -- after a good one it goes on
-  pub goes-on : (w : ℕ) → i < length ws → getD ws i 0 ≡ w → scanOf (checkOf last w) i ≡ Fine →
-      firstBad last i (drop i ws) ≡ firstBad last (i + 1) (drop (i + 1) ws)
-  goes-on w h e good = rw (from h, e, good, add-one)
+    -- .. or by its operand, which the rule of its opcode rules out, ..
+    module _ (known : op < length page) (rule : Rule) (looked : rule ≡ ruleOf op) (bits : ℕ)
+        (taken : bits ≡ w % 16777216) where
+      ruled : (b : Bool) → allows rule last (signed24 bits) ≡ b → allows (ruleOf (opcodeOf w)) last (operandOf w) ≡ b
+      ruled b e = rw (looked, its, taken) at e
+
+      pub ruled-out : allows rule last (signed24 bits) ≡ false → firstBad last i (drop i ws) ≡ Bad 5 i
+      ruled-out e = rw (from there, is, against last w (omega (arith, known, its, all-lines)) (ruled false e))
+
+      -- .. and after a good one it goes on
+      pub goes-on : allows rule last (signed24 bits) ≡ true →
+          firstBad last i (drop i ws) ≡ firstBad last (i + 1) (drop (i + 1) ws)
+      goes-on e = rw (from there, is, fine last w (omega (arith, known, its, all-lines)) (ruled true e), add-one)
 
 -- what the search finds has number 4 or 5
 pub found-number : (last : ℤ) (ws : List ℕ) (i : ℕ) {number index : ℕ} → firstBad last i ws ≡ Bad number index →

@@ -7,8 +7,8 @@ use lib.ListN.{getD, length}
 use Rattle.instruction.specs.Bytes.{wordAt}
 use Rattle.instruction.specs.Rules.{checkOf}
 use Rattle.instruction.specs.Word.{opcodeOf, operandOf}
-use Rattle.instruction.specs.declared.Verdict.{Verdict}
-use Rattle.instruction.specs.declared.Verdict.the-variants as verdict
+use Rattle.instruction.specs.Rules.{Verdict}
+use Rattle.instruction.specs.Rules as verdict
 use Rattle.card.specs.declared.fetching.Instruction.{Instruction}
 use Rattle.card.specs.declared.scan.Scan.{Scan}
 use Rattle.card.specs.declared.scan.Scan.the-variants.{Fine, Bad}

@@ -1,3 +1,4 @@
 pub mod Result
 pub mod Code
 pub mod Image
+pub mod Exact

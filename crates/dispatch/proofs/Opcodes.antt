@@ -3,11 +3,13 @@ use Prim.Native.Nat.{ℕ, _<_, _≤_}
 use mathlib.Core.Logic.{_⊎_, inl, inr, _≢_}
 use mathlib.Core.Path.{_≡_}
 use native.Mathlib.Omega.{arith}
+use Rattle.opcodes.specs.Page.{lastOpcode}
+use Rattle.opcodes.proofs.Rows.{last-is}
 use Rattle.local.proofs.Opcodes.{NoneOf, from-none}
 use Rattle.dispatch.specs.Contract.{Others, Own}
 
 -- of an accepted card's opcodes, those from loadc to call but alloc, ..
-pub own : (op : ℕ) → Others op → op ≤ 40 →
+pub own : (op : ℕ) → Others op → op ≤ lastOpcode →
     NoneOf (NoneOf (NoneOf (NoneOf (NoneOf Unit 0 1 op) 6 1 op) 24 3 op) 28 4 op) 34 7 op → Own op
 own op others most h =
     let last = from-none _ 34 7 op h in
@@ -17,7 +19,7 @@ own op others most h =
     record { least = omega (arith, rest .0 .1); most = by-opcode (last .1) (middle .1) (first .1); other = rest .1 }
   where
     by-opcode : (op < 34) ⊎ (41 ≤ op) → (op < 28) ⊎ (32 ≤ op) → (op < 24) ⊎ (27 ≤ op) → op ≤ 23
-    by-opcode (inr e) d b = absurd (omega (arith, e, most))
+    by-opcode (inr e) d b = absurd (omega (arith, e, most, last-is))
     by-opcode (inl e) (inr d) b =
         let last : op ≢ 33 = λ f. others (inr (inr f)) in
         absurd (others (inr (inl (omega (arith, e, d, last)))))

@@ -4,6 +4,7 @@ mod own;
 
 ghost use Prim.Native.Nat.{_≤_};
 ghost use lib.ListN.{length};
+ghost use Rattle.opcodes.specs.Page.{lastOpcode};
 ghost use Rattle.cells.specs.Contract.{ChangesIn};
 ghost use Rattle.dispatch.specs.Contract.{Others, Working};
 ghost use Rattle.local.specs.Contract.{Permitted};
@@ -27,7 +28,7 @@ pub fn execute(
     requires { ⌜ Working size r (length (now store)) (now tables) (now values) ⌝ }
     requires { ⌜ Permitted n opcode operand ⌝ }
     requires { ⌜ Others opcode ⌝ }
-    requires { ⌜ opcode ≤ 40 ⌝ }
+    requires { ⌜ opcode ≤ lastOpcode ⌝ }
     ensures { λ q.
         ⌜ ChangesIn size n (instructionOf opcode operand) (now (store .entry)) (now (tables .entry))
         (now (values .entry)) r (now (store .exit)) (now (tables .exit)) (now (values .exit)) q ⌝ }

@@ -1,6 +1,5 @@
 pub mod Course
 pub mod Among
 pub mod Inside
-pub mod Operands
 pub mod Taking
 pub mod Working

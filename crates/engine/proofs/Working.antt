@@ -10,9 +10,9 @@ use borrow.Author.Tests.{le-ltb, lt-ltb}
 use Rattle.card.proofs.Words.{count, word}
 use Rattle.card.specs.Code.{instructionAt, wordsOf}
 use Rattle.dispatch.specs.Contract.{Working}
+use Rattle.opcodes.specs.Page.{lastOpcode}
 use Rattle.local.specs.Contract.{Permitted}
 use Rattle.engine.specs.Contract.{Carded}
-use Rattle.engine.proofs.Operands.{count-fits, target-below, target-natural}
 use Rattle.machine.specs.Calls.{boxed}
 use Rattle.machine.proofs.Held.{card-of, few-wait}
 use Rattle.machine.proofs.Laws.{sound-held}
@@ -84,19 +84,12 @@ module _ (code : List ℕ) (n : ℕ) (card : Carded code n) where
       }
 
   -- its instruction is one that an accepted card may have
-  pub permitted : (pc : ℕ) → pc < n → let i = instructionAt code pc in Permitted n (i .opcode) (i .operand) × (i .opcode ≤ 40)
+  pub permitted : (pc : ℕ) → pc < n →
+      let i = instructionAt code pc in Permitted n (i .opcode) (i .operand) × (i .opcode ≤ lastOpcode)
   permitted pc h =
       let w = word code pc (omega (arith, card .long)) in
       let there : pc < length (wordsOf code) = rw so-many h in
-      let allowed = rw (w .is) at (words-of .permitted pc there) in (
-        record {
-          few = λ e. count-fits _ _ _ allowed e .0;
-          count = λ e. count-fits _ _ _ allowed e .1;
-          target = λ low high. target-natural _ _ _ allowed low high;
-          within = λ low high. target-below _ n _ (rw (so-many, w .is) at (words-of .targets pc there)) low high;
-        },
-        rw (w .is) at (words-of .opcodes pc there),
-      )
+      (record { allowed = rw (so-many, w .is) at (words-of .permitted pc there) }, rw (w .is) at (words-of .opcodes pc there))
 
 -- the thread that runs lives
 pub runner-lives : (size : ℕ) (store : List ℤ) (tables : List ℕ) (values : List ℤ) (r : Registers) →

@@ -7,18 +7,19 @@ use mathlib.Core.Path.{_≡_, refl, sym, _∙_, ap}
 use lib.IntN.{ℤ}
 use lib.ListN.{length}
 use lib.Seq.{append-snoc}
-use Rattle.instruction.specs.Rules.{allows, ruleOf}
+use Rattle.opcodes.specs.Page.{nameOf, page, ruleOf}
+use Rattle.opcodes.specs.Rules.{allows, hasOperand}
 use Rattle.instruction.specs.Word.{opcodeOf}
 use Rattle.text.specs.Decimal.{decimal, signed}
 use Rattle.text.specs.Lines.{line}
 use Rattle.machine.proofs.Every.{and-true}
 use Rattle.digits.specs.Reading.{isDecimal, valueOf}
 use Rattle.digits.proofs.Undone.{reads-back}
-use Rattle.text.specs.Bytes.{same}
+use Rattle.opcodes.specs.Ascii.{same}
 use Rattle.words.specs.Words.{join, split}
 use Rattle.words.proofs.Clash.{impossible}
-use Rattle.words.proofs.Cuts.{join-split, same-is}
-use Rattle.names.specs.Names.{hasOperand, nameOf}
+use Rattle.opcodes.proofs.Same.{same-is}
+use Rattle.words.proofs.Cuts.{join-split}
 use Rattle.names.proofs.Table.{named-is}
 use Rattle.lister.specs.Text.{addressOf, cellsWord, headerLine, instructionLine, instructionLines, operandWords, textOf}
 use Rattle.importer.specs.Forms.{Item, Lines, bad, card, good, headed, headerRead, itemRead, lastRead, lineRead, linesRead, right, textRead}
@@ -46,7 +47,7 @@ item-back words item fits e =
 
 -- ---- a line
 
-line-back : (l : List ℕ) (index : ℕ) (item : Item) → item .opcode < 41 → inBits (item .operand) ≡ true →
+line-back : (l : List ℕ) (index : ℕ) (item : Item) → item .opcode < length page → inBits (item .operand) ≡ true →
     lineRead (split 32 l) ≡ right index item → l ++ 10 ∷ [] ≡ instructionLine index (itemWord item)
 line-back l index item h fits e =
     let s = spells (split 32 l) index item e in

@@ -9,23 +9,25 @@ use borrow.Author.Tests.{eq-eqb, le-leb, le-ltb, leb-true, lt-ltb, ltb-false}
 use lib.Dec.{leb, ltb}
 use lib.IntN.{ℤ, pos, negsuc}
 use lib.ListN.{length}
-use Rattle.instruction.specs.Rules.{allows, checkOf, ruleOf}
+use Rattle.opcodes.specs.Page.{lastOpcode, nameOf, page, ruleOf}
+use Rattle.opcodes.proofs.Rows.{in-page}
+use Rattle.opcodes.specs.Rules.{allows, hasOperand}
+use Rattle.instruction.specs.Rules.{checkOf}
 use Rattle.instruction.specs.Word.{bitsOf, opcodeOf, operandOf, signed24}
-use Rattle.instruction.specs.declared.Rule.{Rule}
-use Rattle.instruction.specs.declared.Rule.the-variants.{Any, Offset, Count, Target, Zero}
-use Rattle.instruction.specs.declared.Verdict.{Verdict}
-use Rattle.instruction.specs.declared.Verdict.the-variants as verdict
+use Rattle.opcodes.specs.declared.table.Rule.{Rule}
+use Rattle.opcodes.specs.declared.table.Rule.the-variants.{Zero, FromTo, ZeroToNMinus1}
+use Rattle.instruction.specs.Rules.{Verdict}
+use Rattle.instruction.specs.Rules as verdict
 use Rattle.card.specs.Code.{firstBad, orElse, scanOf}
 use Rattle.card.specs.declared.scan.Scan.the-variants.{Fine}
 use Rattle.text.specs.Decimal.{decimal}
 use Rattle.machine.proofs.Every.{and-true}
 use Rattle.machine.proofs.Lists.{cases, less-or-not}
 use Rattle.digits.proofs.Undone.{decimal-read, decimal-written}
-use Rattle.text.specs.Bytes.{bytes}
+use Rattle.opcodes.specs.Ascii.{bytes}
 use Rattle.words.specs.Words.{join, lacks, split}
 use Rattle.words.proofs.Clash.{impossible}
 use Rattle.words.proofs.Cuts.{AllLack, same-self, split-join}
-use Rattle.names.specs.Names.{hasOperand, nameOf}
 use Rattle.names.proofs.Table.{right as named}
 use Rattle.lister.specs.Text.{addressOf, cellsWord, instructionLine, instructionLines, operandWords, textOf}
 use Rattle.importer.specs.Forms.{Item, card, good, headerRead, itemRead, lineRead, linesRead, right, textRead}
@@ -46,16 +48,16 @@ itemsOf (w ∷ ws) = itemOf w ∷ itemsOf ws
 
 -- an instruction that is right
 record Right (last : ℤ) (w : ℕ) : Type 0 where
-  pub opcode : opcodeOf w < 41
+  pub opcode : opcodeOf w < length page
   pub rule : allows (ruleOf (opcodeOf w)) last (operandOf w) ≡ true
 
 right-of : (last : ℤ) (w : ℕ) → checkOf last w ≡ verdict.Fine → Right last w
-right-of last w e = by (ltb 40 (opcodeOf w)) refl (allows (ruleOf (opcodeOf w)) last (operandOf w)) refl e
+right-of last w e = by (ltb lastOpcode (opcodeOf w)) refl (allows (ruleOf (opcodeOf w)) last (operandOf w)) refl e
   where
-    by : (t : Bool) → ltb 40 (opcodeOf w) ≡ t → (u : Bool) → allows (ruleOf (opcodeOf w)) last (operandOf w) ≡ u →
+    by : (t : Bool) → ltb lastOpcode (opcodeOf w) ≡ t → (u : Bool) → allows (ruleOf (opcodeOf w)) last (operandOf w) ≡ u →
         cond t verdict.BadOpcode (cond u verdict.Fine verdict.BadOperand) ≡ verdict.Fine → Right last w
     by true t u p q = impossible cc
-    by false t true p q = record { opcode = omega (arith, ltb-false 40 (opcodeOf w) t); rule = p }
+    by false t true p q = record { opcode = in-page _ (ltb-false lastOpcode (opcodeOf w) t); rule = p }
     by false t false p q = impossible cc
 
 -- a list whose first and other instructions are right
@@ -118,10 +120,8 @@ none-against last (w ∷ ws) index e =
 
 -- where there is no operand, it is 0
 bare-zero : (rule : Rule) (last k : ℤ) → hasOperand rule ≡ false → allows rule last k ≡ true → pos 0 ≡ k
-bare-zero Any last k e h = impossible cc
-bare-zero Offset last k e h = impossible cc
-bare-zero Count last k e h = impossible cc
-bare-zero Target last k e h = impossible cc
+bare-zero (FromTo low high) last k e h = impossible cc
+bare-zero ZeroToNMinus1 last k e h = impossible cc
 bare-zero Zero last (pos n) e h = ap pos (omega (arith, leb-true n 0 (and-true (leb 0 n) (leb n 0) h .1)))
 bare-zero Zero last (negsuc n) e h = impossible cc
 

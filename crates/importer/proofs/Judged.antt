@@ -9,9 +9,12 @@ use borrow.Author.Tests.{eqb-true, le-ltb, leb-true, lt-ltb}
 use lib.Dec.{eqb, leb, ltb}
 use lib.IntN.{ℤ, pos, negsuc}
 use lib.ListN.{length}
-use Rattle.instruction.specs.Rules.{allows, checkOf, ruleOf}
+use Rattle.opcodes.specs.Page.{lastOpcode, page, ruleOf}
+use Rattle.opcodes.proofs.Rows.{all-lines, to-last}
+use Rattle.opcodes.specs.Rules.{allows, hasOperand}
+use Rattle.instruction.specs.Rules.{checkOf}
 use Rattle.instruction.specs.Word.{bitsOf, opcodeOf, operandOf, signed24}
-use Rattle.instruction.specs.declared.Verdict.the-variants as verdict
+use Rattle.instruction.specs.Rules as verdict
 use Rattle.card.specs.Code.{firstBad, orElse, scanOf}
 use Rattle.card.specs.declared.scan.Scan.{Scan}
 use Rattle.card.specs.declared.scan.Scan.the-variants.{Fine, Bad}
@@ -19,7 +22,7 @@ use Rattle.machine.proofs.Every.{and-true}
 use Rattle.digits.specs.Reading.{valueOf}
 use Rattle.words.specs.Words.{split}
 use Rattle.words.proofs.Clash.{impossible}
-use Rattle.names.specs.Names.{hasOperand, opcodeNamed}
+use Rattle.names.specs.Names.{opcodeNamed}
 use Rattle.names.specs.declared.Named.{Named}
 use Rattle.names.specs.declared.Named.the-variants.{Opcode, Unknown}
 use Rattle.names.proofs.Table.{named-is}
@@ -31,7 +34,7 @@ use Rattle.importer.specs.Importing.{firstAgainst, inBits, isAllowed, it
 
 abbrev pub AllNamed : List Item → Type 0
 AllNamed [] = Unit
-AllNamed (item ∷ items) = (item .opcode < 41) × AllNamed items
+AllNamed (item ∷ items) = (item .opcode < length page) × AllNamed items
 
 -- what follows the name of an instruction: nothing, or its operand
 abbrev pub Operands : List (List ℕ) → Item → Type 0
@@ -80,7 +83,7 @@ spelt (name ∷ []) item e = bare name (opcodeNamed name) item refl e
 spelt (name ∷ k ∷ []) item e = full name k (opcodeNamed name) (operandRead k) item refl refl e
 spelt (name ∷ k ∷ l ∷ more) item e = impossible cc
 
-item-named : (words : List (List ℕ)) (item : Item) → itemRead words ≡ some item → item .opcode < 41
+item-named : (words : List (List ℕ)) (item : Item) → itemRead words ≡ some item → item .opcode < length page
 item-named words item e = let s = spelt words item e in named-is (s .name) (item .opcode) (s .known) .0
 
 -- an item that a line spells, by its words
@@ -159,21 +162,22 @@ pub record Word (item : Item) : Type 0 where
   pub operand : operandOf (itemWord item) ≡ item .operand
   pub small : itemWord item < 4294967296
 
-pub word : (item : Item) → item .opcode < 41 → inBits (item .operand) ≡ true → Word item
+pub word : (item : Item) → item .opcode < length page → inBits (item .operand) ≡ true → Word item
 word item h e =
     let b = bits (item .operand) e in
     let low : (item .opcode * 16777216 + bitsOf (item .operand)) % 16777216 ≡ bitsOf (item .operand) = omega (arith, b .small) in
-    record { opcode = omega (arith, b .small); operand = rw low (b .back); small = omega (arith, h, b .small) }
+    record { opcode = omega (arith, b .small); operand = rw low (b .back); small = omega (arith, h, b .small, all-lines) }
 
 -- ---- one instruction, and all of them
 
-check-coded : (last : ℤ) (item : Item) → item .opcode < 41 →
+check-coded : (last : ℤ) (item : Item) → item .opcode < length page →
     checkOf last (coded item) ≡ cond (isAllowed last item) verdict.Fine verdict.BadOperand
+unfolding page
 check-coded last item h = by (inBits (item .operand)) refl
   where
     by : (t : Bool) → inBits (item .operand) ≡ t →
         checkOf last (cond t (itemWord item) 1) ≡ cond (t && allows (ruleOf (item .opcode)) last (item .operand)) verdict.Fine verdict.BadOperand
-    by true t = let w = word item h t in rw (w .opcode, w .operand, le-ltb 40 (item .opcode) (omega (arith, h)))
+    by true t = let w = word item h t in rw (w .opcode, w .operand, le-ltb lastOpcode (item .opcode) (to-last _ h))
     by false t = refl
 
 abbrev pub scanned : Option ℕ → Scan

@@ -11,17 +11,18 @@ use borrow.Author.Tests.{eq-eqb, ne-eqb}
 use lib.IntN.{ℤ}
 use lib.ListN.{drop, length, take}
 use lib.Seq.{take-length}
-use Rattle.instruction.specs.Rules.{ruleOf}
+use Rattle.opcodes.specs.Page.{ruleOf}
 use Rattle.instruction.specs.Word.{bitsOf}
 use Rattle.card.proofs.Words.{rest}
 use Rattle.machine.proofs.Lists.{cases, clash, less-or-not}
 use Rattle.digits.specs.Reading.{capped, decimalOf, isDecimal, valueOf}
 use Rattle.digits.specs.declared.Decimal.the-variants as decimal
-use Rattle.text.specs.Bytes.{same}
+use Rattle.opcodes.specs.Ascii.{same}
 use Rattle.words.specs.Words.{lacks, split, upTo}
 use Rattle.words.proofs.Clash.{impossible}
 use Rattle.words.proofs.Cuts.{cut, part-alone, two, whole}
-use Rattle.names.specs.Names.{hasOperand, opcodeNamed}
+use Rattle.opcodes.specs.Rules.{hasOperand}
+use Rattle.names.specs.Names.{opcodeNamed}
 use Rattle.names.specs.declared.Named.{Named}
 use Rattle.names.specs.declared.Named.the-variants.{Opcode, Unknown}
 use Rattle.lister.specs.Text.{cellsWord}

@@ -6,11 +6,12 @@ use mathlib.Core.Option.{Option, none, some}
 use lib.Dec.{eqb}
 use lib.IntN.{ℤ, pos, negsuc}
 use lib.ListN.{length}
-use Rattle.instruction.specs.Rules.{ruleOf}
+use Rattle.opcodes.specs.Page.{ruleOf}
 use Rattle.digits.specs.Reading.{allDigits, isDecimal, valueOf}
-use Rattle.text.specs.Bytes.{same}
+use Rattle.opcodes.specs.Ascii.{same}
 use Rattle.words.specs.Words.{split}
-use Rattle.names.specs.Names.{hasOperand, opcodeNamed}
+use Rattle.opcodes.specs.Rules.{hasOperand}
+use Rattle.names.specs.Names.{opcodeNamed}
 use Rattle.names.specs.declared.Named.{Named}
 use Rattle.names.specs.declared.Named.the-variants.{Opcode, Unknown}
 use Rattle.lister.specs.Text.{cellsWord}

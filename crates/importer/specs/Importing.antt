@@ -7,15 +7,16 @@ use mathlib.Core.Path.{_≡_, refl}
 use lib.Dec.{ltb}
 use lib.IntN.{ℤ, pos, negsuc}
 use lib.ListN.{drop, length}
-use Rattle.instruction.specs.Rules.{allows, isBetween, ruleOf}
+use Rattle.opcodes.specs.Page.{page, ruleOf}
+use Rattle.opcodes.specs.Rules.{allows, isBetween}
 use Rattle.instruction.specs.Word.{wordOf}
 use Rattle.card.specs.Image.{imageSize, lastOf, outOfRange}
 use Rattle.card.specs.Result.{Result, gives, refuses}
 use Rattle.writer.specs.Writing.{imageOf, wordsBytes}
 use Rattle.digits.specs.Reading.{allDigits, isDecimal, valueFrom}
-use Rattle.text.specs.Bytes.{bytes, same}
+use Rattle.opcodes.specs.Ascii.{bytes, same}
 use Rattle.words.specs.Words.{split}
-use Rattle.names.specs.Names.{namedFrom, names}
+use Rattle.names.specs.Names.{namedIn}
 use Rattle.importer.specs.Forms.{Item, Text, card, headerRead, itemRead, lineRead, linesRead, operandRead, refused, textRead}
 use Rattle.importer.specs.declared.importing.Importing.{Importing}
 use Rattle.importer.specs.declared.importing.Importing.the-variants.{Imported, Refused}
@@ -88,9 +89,9 @@ p2-said : Text
 p2-said = said (bytes "cells 1\n0000 loadc 7\n0001 exit\n")
 
 p2-image : imageSaid p2-said ≡ 0 ∷ 0 ∷ 0 ∷ 13 ∷ 1 ∷ 0 ∷ 1 ∷ 0 ∷ 2 ∷ 1 ∷ 0 ∷ 0 ∷ 7 ∷ 28 ∷ 0 ∷ 0 ∷ 0 ∷ []
-unfolding allDigits bytes headerRead imageSaid isDecimal itemRead lineRead linesRead namedFrom names operandRead p2-said same split textRead valueFrom wordsBytes wordsOf
+unfolding allDigits bytes headerRead imageSaid isDecimal itemRead lineRead linesRead namedIn operandRead page p2-said same split textRead valueFrom wordsBytes wordsOf
 p2-image = refl
 
 p2-imported : (answerOf p2-said 17 ≡ gives 17) × (answerOf p2-said 16 ≡ refuses 43 0)
-unfolding allDigits answerOf bytes firstAgainst headerRead isDecimal itemRead lineRead linesRead namedFrom names operandRead p2-said same split textRead valueFrom
+unfolding allDigits answerOf bytes firstAgainst headerRead isDecimal itemRead lineRead linesRead namedIn operandRead page p2-said same split textRead valueFrom
 p2-imported = (refl, refl)

@@ -20,7 +20,7 @@ pub enum Entry {
 const AGAINST: u32 = 1;
 
 fn bare(opcode: u32) -> Entry
-    requires { ⌜ opcode < 41 ⌝ }
+    requires { ⌜ opcode < 256 ⌝ }
     ensures { λ r. ⌜ r ≡ codedEntry (bareItem (named.Opcode opcode)) ⌝ }
 {
     if names::has_operand(opcode) {
@@ -30,7 +30,7 @@ fn bare(opcode: u32) -> Entry
 }
 
 fn full(opcode: u32, word: &[u8]) -> Entry
-    requires { ⌜ opcode < 41 ⌝ }
+    requires { ⌜ opcode < 256 ⌝ }
     ensures { λ r. ⌜ r ≡ codedEntry (fullItem (named.Opcode opcode) (operandRead (now (word .entry)))) ⌝ }
 {
     if !names::has_operand(opcode) {

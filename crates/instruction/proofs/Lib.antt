@@ -1,1 +1,4 @@
 pub mod Stores
+pub mod Zeros
+pub mod Checks
+pub mod Sentence

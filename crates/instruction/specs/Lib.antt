@@ -1,3 +1,4 @@
 pub mod Bytes
 pub mod Word
 pub mod Rules
+pub mod Sentence

@@ -1,36 +1,13 @@
-// One instruction as a 32-bit word, opcode times 2^24 plus the operand's 24 bits, and the rules that it is judged by.
+// One instruction as a 32-bit word, opcode times 2^24 plus the operand's 24 bits, and whether a rule allows its operand.
 // Inner: the card's reader and writer and the machine call these functions.
 ghost use mathlib.Core.Path.{_≡_};
-ghost use Prim.Native.Nat.{_+_, _<_, _≤_};
+ghost use Prim.Native.Nat.{_+_, _%_, _<_, _≤_};
 ghost use lib.ListN.{length};
 ghost use lib.Seq.{sets};
 ghost use Rattle.instruction.specs.Bytes.{byteOf, halfAt, halfBytes, wordAt, wordBytes};
-ghost use Rattle.instruction.specs.Word.{opcodeOf, operandOf};
-ghost use Rattle.instruction.specs.Rules.{allows, checkOf, isBetween, ruleOf};
-
-// The last opcode, down.
-const LAST_OPCODE: u32 = 40;
-
-// Which operands an opcode takes.
-pub enum Rule {
-    // loadc: any 24 bits.
-    Any,
-    // loadr and storer: a cell relative to FP, -128 to 127.
-    Offset,
-    // alloc: 0 to 127.
-    Count,
-    // jump and jumpz: an instruction of the card, 0 to n - 1.
-    Target,
-    // Every other opcode: 0.
-    Zero,
-}
-
-// What is wrong with one instruction.
-pub enum Verdict {
-    Fine,
-    BadOpcode,
-    BadOperand,
-}
+ghost use Rattle.opcodes.specs.Rules.{allows, isBetween};
+ghost use Rattle.instruction.specs.Word.{opcodeOf, operandOf, signed24};
+use opcodes::Rule;
 
 fn wide(b: u8) -> u32
     ensures { λ r. ⌜ (r ≡ b) × (r < 256) ⌝ }
@@ -78,24 +55,26 @@ pub fn opcode(w: u32) -> u32
     w / 16777216
 }
 
-// The operand: the low 24 bits in two's complement.
-pub fn operand(w: u32) -> i32
-    ensures { λ r. ⌜ r ≡ operandOf w ⌝ }
+// The operand's 24 bits.
+pub fn bits(w: u32) -> u32
+    ensures { λ r. ⌜ r ≡ w % 16777216 ⌝ }
 {
-    let turned = (w % 16777216 + 8388608) % 16777216;
+    w % 16777216
+}
+
+// 24 bits in two's complement.
+fn signed(bits: u32) -> i32
+    requires { ⌜ bits < 16777216 ⌝ }
+    ensures { λ r. ⌜ r ≡ signed24 bits ⌝ }
+{
+    let turned = (bits + 8388608) % 16777216;
     turned as i32 - 8388608
 }
 
-pub fn rule_of(opcode: u32) -> Rule
-    ensures { λ r. ⌜ r ≡ ruleOf opcode ⌝ }
+pub fn operand(w: u32) -> i32
+    ensures { λ r. ⌜ r ≡ operandOf w ⌝ }
 {
-    match opcode {
-        1 => Rule::Any,
-        4 | 5 => Rule::Offset,
-        6 => Rule::Count,
-        20 | 21 => Rule::Target,
-        _ => Rule::Zero,
-    }
+    signed(bits(w))
 }
 
 fn between(low: i32, high: i32, k: i32) -> bool
@@ -104,33 +83,15 @@ fn between(low: i32, high: i32, k: i32) -> bool
     low <= k && k <= high
 }
 
-// Whether `rule` allows the operand `k` on a card whose last instruction is number `last`.
-pub fn permits(rule: Rule, last: i32, k: i32) -> bool
-    ensures { λ r. ⌜ r ≡ allows rule last k ⌝ }
+// Whether `rule` allows the operand with these bits on a card whose last instruction is number `last`. Most opcodes
+// take 0 alone, and for them the bits are not made a number.
+pub fn permits(rule: Rule, last: i32, bits: u32) -> bool
+    requires { ⌜ bits < 16777216 ⌝ }
+    ensures { λ r. ⌜ r ≡ allows rule last (signed24 bits) ⌝ }
 {
     match rule {
-        Rule::Any => true,
-        Rule::Offset => between(-128, 127, k),
-        Rule::Count => between(0, 127, k),
-        Rule::Target => between(0, last, k),
-        Rule::Zero => between(0, 0, k),
+        Rule::FromTo(low, high) => between(low, high, signed(bits)),
+        Rule::ZeroToNMinus1 => between(0, last, signed(bits)),
+        Rule::Zero => bits == 0,
     }
-}
-
-// The instruction `w` of a card whose last instruction is number `last`, by the rules of refusals 4 and 5.
-pub fn check(w: u32, last: i32) -> Verdict
-    ensures { λ r. ⌜ r ≡ checkOf last w ⌝ }
-{
-    let op = opcode(w);
-    let rule = rule_of(op);
-    let k = operand(w);
-    let over = LAST_OPCODE < op;
-    let fits = permits(rule, last, k);
-    if over {
-        return Verdict::BadOpcode;
-    }
-    if !fits {
-        return Verdict::BadOperand;
-    }
-    Verdict::Fine
 }

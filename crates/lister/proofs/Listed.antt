@@ -11,7 +11,7 @@ use Rattle.instruction.specs.Bytes.{wordAt}
 use Rattle.card.specs.Image.{Headed, cellsOf, countOf, readOf}
 use Rattle.card.specs.Result.{gives, refuses}
 use Rattle.card.proofs.Header.{accepts, headed}
-use Rattle.text.specs.Bytes.{bytes}
+use Rattle.opcodes.specs.Ascii.{bytes}
 use Rattle.text.specs.Lines.{Puts, line}
 use Rattle.lister.specs.Filling.{lineText}
 use Rattle.lister.specs.Listing.{Leaves, Lists, contentOf, imageLine, lineOf, listOf}

@@ -9,12 +9,12 @@ use borrow.Author.Tests.{lt-ltb}
 use lib.ListN.{length, take}
 use lib.Seq.{sets-eq, take-append-seam}
 use Rattle.io.specs.Digits.{glyph}
-use Rattle.instruction.specs.Rules.{ruleOf}
+use Rattle.opcodes.specs.Page.{nameOf, ruleOf}
 use Rattle.instruction.specs.Word.{opcodeOf, operandOf}
 use Rattle.text.specs.Decimal.{signed}
 use Rattle.text.specs.Lines.{Puts, line}
 use Rattle.text.proofs.Lines.{both, of}
-use Rattle.names.specs.Names.{hasOperand, nameOf}
+use Rattle.opcodes.specs.Rules.{hasOperand}
 use Rattle.lister.specs.Filling.{PiecesMakeLine, contentText, lineText, operandText, pieceText, startText}
 use Rattle.lister.specs.Text.{addressOf, operandWords}
 

@@ -6,10 +6,10 @@ use mathlib.Core.Path.{_≡_}
 use denote.Ref.{now, at-last}
 use lib.ListN.{length}
 use lib.Seq.{sets}
-use Rattle.instruction.specs.Rules.{ruleOf}
+use Rattle.opcodes.specs.Page.{nameOf, ruleOf}
 use Rattle.instruction.specs.Word.{opcodeOf, operandOf}
 use Rattle.text.specs.Decimal.{decimal, signed}
-use Rattle.names.specs.Names.{hasOperand, nameOf}
+use Rattle.opcodes.specs.Rules.{hasOperand}
 use Rattle.lister.specs.Text.{addressOf, cellsWord, headerLine, instructionLine}
 use Rattle.lister.specs.declared.writer.Writer.{Writer}
 

@@ -5,15 +5,14 @@ use mathlib.Core.List.{List, [], _∷_, _++_}
 use mathlib.Core.Path.{_≡_, refl}
 use lib.ListN.{length}
 use Rattle.io.specs.Digits.{digits}
-use Rattle.instruction.specs.Rules.{ruleOf}
+use Rattle.opcodes.specs.Page.{nameOf, page, ruleOf}
 use Rattle.instruction.specs.Word.{opcodeOf, operandOf}
 use Rattle.card.specs.Code.{wordsOf}
 use Rattle.card.specs.Image.{cellsOf, codeOf}
 use Rattle.text.specs.Decimal.{decimal, places, signed}
 use Rattle.text.specs.Lines.{line}
-use Rattle.text.specs.Bytes.{bytes}
-use Rattle.words.specs.Words.{split}
-use Rattle.names.specs.Names.{hasOperand, nameOf, names}
+use Rattle.opcodes.specs.Ascii.{bytes}
+use Rattle.opcodes.specs.Rules.{hasOperand}
 
 -- "First line `cells` and g", g "in decimal without leading zeros .., without a sign"; "each line ended by a line feed"
 abbrev pub cellsWord : List ℕ
@@ -49,15 +48,15 @@ listingOf image = textOf (cellsOf image) (wordsOf (codeOf image))
 
 -- "P2 lists as `cells 1`, `0000 loadc 7`, `0001 exit`": loadc 7 and exit as words
 p2-text : textOf 1 (16777223 ∷ 469762048 ∷ []) ≡ bytes "cells 1\n0000 loadc 7\n0001 exit\n"
-unfolding bytes decimal instructionLines line names places split
+unfolding bytes decimal instructionLines line page places
 p2-text = refl
 
 -- the longest line: the least operand
 longest-line : instructionLine 4095 25165824 ≡ bytes "4095 loadc -8388608\n"
-unfolding bytes decimal line names places split
+unfolding bytes decimal line page places
 longest-line = refl
 
 -- "a text can pass 64 KiB": the longest has 81,931 bytes
 longest : length (headerLine 4096) + 4096 * length (instructionLine 4095 25165824) ≡ 81931
-unfolding bytes decimal line names places split
+unfolding bytes decimal line page places
 longest = refl

@@ -1,10 +1,13 @@
 -- What an instruction of the running thread alone asks, and what it promises.
-use Prim.Native.Nat.{ℕ, _<_, _≤_}
+use Prim.Native.Nat.{ℕ}
 use mathlib.Core.Bool.{true, false}
 use mathlib.Core.List.{List}
 use mathlib.Core.Path.{_≡_}
-use lib.IntN.{ℤ, natAbs, pos}
+use lib.IntN.{ℤ, pos}
 use lib.Signed.{leZ}
+use Rattle.opcodes.specs.Page.{ruleOf}
+use Rattle.opcodes.specs.Rules.{allows}
+use Rattle.card.specs.Image.{lastOf}
 use Rattle.cells.specs.Contract.{at}
 use Rattle.machine.specs.Context.{inContext}
 use Rattle.machine.specs.Execution.{done, exec}
@@ -18,13 +21,9 @@ use Rattle.machine.specs.declared.registers.Registers.{Registers}
 abbrev pub Natural : ℤ → Type 0
 Natural k = leZ (pos 0) k ≡ true
 
--- an operand that an accepted card of n instructions may have, where the machine takes it as a number of cells or a
--- target
+-- an operand that its opcode's line allows on a card of n instructions
 pub record Permitted (n opcode : ℕ) (operand : ℤ) : Type 0 where
-  pub few : opcode ≡ 6 → natAbs operand ≤ 127
-  pub count : opcode ≡ 6 → Natural operand
-  pub target : 20 ≤ opcode → opcode ≤ 21 → Natural operand
-  pub within : 20 ≤ opcode → opcode ≤ 21 → natAbs operand < n
+  pub allowed : allows (ruleOf opcode) (lastOf n) operand ≡ true
 
 -- where the instruction w was carried out, it did what the definitions say, whatever tables, values and other
 -- registers stand beside; else the store is as it was, and nothing is said of the instruction

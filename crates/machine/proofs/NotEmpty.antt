@@ -1,6 +1,7 @@
 -- None of the laws is empty: an accepted card, and lists of calls after which a mutex has an owner and a waiter, it is handed on, and two
 -- wait for a semaphore. Computed. Assumes nothing.
 use mathlib.Core.Path.{refl}
+use Rattle.opcodes.specs.Page.{page}
 use Rattle.card.specs.Code.{firstBad, wordsOf}
 use Rattle.card.specs.Image.{codeOf, readCode, readOf}
 use Rattle.writer.specs.Writing.{wordsBytes}
@@ -19,5 +20,5 @@ use Rattle.machine.specs.WellFormed.{allBelow, formed, wellFormed}
 pub not-empty : NotEmpty
 unfolding
     played setUp runCall run carried exec needs rooms within fits frame opening owns eventOf instructionOf start next left finished tablesOf sliceOf queue anyLive
-    first sent owned ownsAny saved allReady keep count toEnd upTo every some allBelow formed wellFormed readOf readCode codeOf firstBad wordsOf wordsBytes
+    first sent owned ownsAny saved allReady keep count toEnd upTo every some allBelow formed wellFormed readOf readCode codeOf firstBad page wordsOf wordsBytes
 not-empty = record { accepted = refl; owner = refl; waiters = refl; released = refl; handed-on = refl; semaphore = refl; count = refl; in-line = refl }

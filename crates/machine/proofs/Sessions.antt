@@ -8,10 +8,11 @@ use lib.Dec.{eqb, leb}
 use lib.IntN.{ℤ, pos, negsuc}
 use borrow.Author.Tests.{eqb-true, leb-true}
 use Rattle.arithmetic.specs.Arithmetic.{eqZ}
+use Rattle.opcodes.specs.Page.{page}
 use Rattle.card.specs.Code.{firstBad, wordsOf}
 use Rattle.card.specs.Image.{codeOf, readCode, readOf}
 use Rattle.writer.specs.Writing.{wordsBytes}
-use Rattle.text.specs.Bytes.{bytes}
+use Rattle.opcodes.specs.Ascii.{bytes}
 use Rattle.text.specs.Decimal.{decimal, places}
 use Rattle.text.specs.Lines.{line}
 use Rattle.machine.specs.Book.{eventOf}
@@ -101,12 +102,12 @@ pub hold : Hold
 unfolding
     all passes sameResult agree bytes endedOf runnerIn lineOf line decimal places setUp runCall run carried exec needs rooms within fits frame owns eventOf
     instructionOf start next left finished tablesOf sliceOf queue anyLive first sent owned ownsAny saved allReady keep count toEnd upTo every some allBelow formed
-    wellFormed readOf readCode codeOf firstBad wordsOf wordsBytes
+    wellFormed readOf readCode codeOf firstBad page wordsOf wordsBytes
 hold = each full sessions refl
 
 pub excluded : Excluded
 unfolding
     all passes sameResult agree bytes endedOf runnerIn lineOf line decimal places setUp runCall run carried exec needs rooms within fits frame opening owns eventOf
     instructionOf start next left finished tablesOf sliceOf queue anyLive first sent owned ownsAny saved allReady keep count toEnd upTo every some allBelow formed
-    wellFormed readOf readCode codeOf firstBad wordsOf wordsBytes
+    wellFormed readOf readCode codeOf firstBad page wordsOf wordsBytes
 excluded = each few mistakes refl

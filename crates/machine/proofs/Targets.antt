@@ -10,11 +10,11 @@ use lib.IntN.{ℤ, pos, negsuc, natAbs}
 use lib.ListN.{length, getD, List·getD-eq-default}
 use lib.Signed.{leZ}
 use borrow.Author.Tests.{ne-eqb, eqb-true, leb-true, le-ltb, ltb-false}
-use Rattle.instruction.specs.Rules.{allows, checkOf, isBetween, ruleOf}
+use Rattle.opcodes.specs.Page.{lastOpcode, page, ruleOf}
+use Rattle.opcodes.specs.Rules.{allows, isBetween}
 use Rattle.instruction.specs.Word.{opcodeOf, operandOf}
-use Rattle.instruction.specs.declared.Rule.the-variants as rule
-use Rattle.instruction.specs.declared.Verdict.{Verdict}
-use Rattle.instruction.specs.declared.Verdict.the-variants as verdict
+use Rattle.instruction.specs.Rules.{Verdict, checkOf}
+use Rattle.instruction.specs.Rules as verdict
 use Rattle.card.specs.Code.{firstBad, orElse, scanOf}
 use Rattle.card.specs.Image.{lastOf}
 use Rattle.card.specs.declared.scan.Scan.{Scan}
@@ -73,30 +73,37 @@ targetOf instr.down = 0
 plain-entry : ℤ → ℕ → Bool
 plain-entry k op = eqb op 20 || (eqb op 21 || eqb (targetOf (getD (opcodes k) op instr.halt)) 0)
 
-table : (k : ℤ) → every 41 (plain-entry k) ≡ true
-unfolding every plain-entry targetOf
+table : (k : ℤ) → every (length page) (plain-entry k) ≡ true
+unfolding every page plain-entry targetOf
 table k = refl
 
-past : (k : ℤ) (op : ℕ) → 41 ≤ op → getD (opcodes k) op instr.halt ≡ instr.halt
-past k op h = List·getD-eq-default (opcodes k) instr.halt h
+-- an instruction for each line of the page
+as-many : (k : ℤ) → length (opcodes k) ≡ length page
+unfolding page
+as-many k = refl
+
+past : (k : ℤ) (op : ℕ) → length page ≤ op → getD (opcodes k) op instr.halt ≡ instr.halt
+past k op h =
+    let over : length (opcodes k) ≤ op = rw (as-many k) h in
+    List·getD-eq-default (opcodes k) instr.halt over
 
 no-target : (op : ℕ) (k : ℤ) → op ≢ 20 → op ≢ 21 → targetOf (instructionOf op k) ≡ 0
 unfolding instructionOf plain-entry
 no-target op k a b =
-    less-or-not op 41
+    less-or-not op (length page)
     (λ h.
-    let row = every-true 41 (plain-entry k) (table k) op h in
+    let row = every-true (length page) (plain-entry k) (table k) op h in
     eqb-true _ 0 (or-true (eqb op 21) _ (or-true (eqb op 20) _ row (ne-eqb op 20 a)) (ne-eqb op 21 b)))
     (λ h. rw (past k op h) (unfold targetOf in refl))
 
 -- an operand from 0 to n − 1
-in-card : (n : ℕ) (k : ℤ) → 1 ≤ n → isBetween (pos 0) (lastOf n) k ≡ true → natAbs k < n
-in-card zero k h e = absurd (omega arith)
-in-card (suc n) (pos a) h e =
+pub in-card : (n : ℕ) (k : ℤ) → isBetween (pos 0) (lastOf n) k ≡ true → natAbs k < n
+in-card zero (pos a) e = never (and-second (leZ (pos 0) (pos a)) _ e)
+in-card (suc n) (pos a) e =
     let last : lastOf (suc n) ≡ pos n = rw (le-ltb (suc n) 1 (omega arith)) (ap pos (omega arith)) in
     let less : isBetween (pos 0) (pos n) (pos a) ≡ true = rw last at e in
     omega (arith, leb-true a n (and-second (leZ (pos 0) (pos a)) (leZ (pos a) (pos n)) less))
-in-card (suc n) (negsuc a) h e = never e
+in-card n (negsuc a) e = never e
 
 jump-20 : (k : ℤ) → targetOf (instructionOf 20 k) ≡ natAbs k
 unfolding targetOf instructionOf
@@ -107,16 +114,17 @@ unfolding targetOf instructionOf
 jump-21 k = refl
 
 target-at : (n op : ℕ) (k : ℤ) → 1 ≤ n → allows (ruleOf op) (lastOf n) k ≡ true → targetOf (instructionOf op k) < n
+unfolding page
 target-at n op k h e =
     same-or-not op 20
     (λ i.
     let mine : isBetween (pos 0) (lastOf n) k ≡ true = rw i at e in
-    rw (i, jump-20 k) (in-card n k h mine))
+    rw (i, jump-20 k) (in-card n k mine))
     (λ i.
     same-or-not op 21
     (λ j.
     let mine : isBetween (pos 0) (lastOf n) k ≡ true = rw j at e in
-    rw (j, jump-21 k) (in-card n k h mine))
+    rw (j, jump-21 k) (in-card n k mine))
     (λ j. omega (arith, no-target op k i j)))
 
 -- a fine instruction's operand is allowed
@@ -132,12 +140,14 @@ known : (over fits : Bool) → cond over verdict.BadOpcode (cond fits verdict.Fi
 known true fits e = absurd (let z : _≡_ {A = ℕ} 0 1 = cc in omega arith)
 known false fits e = refl
 
-pub opcode-known : (n w : ℕ) → checkOf (lastOf n) w ≡ verdict.Fine → opcodeOf w ≤ 40
-opcode-known n w e = ltb-false 40 (opcodeOf w) (known (ltb 40 (opcodeOf w)) (allows (ruleOf (opcodeOf w)) (lastOf n) (operandOf w)) e)
+pub opcode-known : (n w : ℕ) → checkOf (lastOf n) w ≡ verdict.Fine → opcodeOf w ≤ lastOpcode
+opcode-known n w e =
+    ltb-false lastOpcode (opcodeOf w)
+    (known (ltb lastOpcode (opcodeOf w)) (allows (ruleOf (opcodeOf w)) (lastOf n) (operandOf w)) e)
 
 pub operand-allowed : (n w : ℕ) → checkOf (lastOf n) w ≡ verdict.Fine →
     allows (ruleOf (opcodeOf w)) (lastOf n) (operandOf w) ≡ true
-operand-allowed n w e = allowed (ltb 40 (opcodeOf w)) (allows (ruleOf (opcodeOf w)) (lastOf n) (operandOf w)) e
+operand-allowed n w e = allowed (ltb lastOpcode (opcodeOf w)) (allows (ruleOf (opcodeOf w)) (lastOf n) (operandOf w)) e
 
 pub target-in : (n w : ℕ) → 1 ≤ n → checkOf (lastOf n) w ≡ verdict.Fine → targetOf (decoded w) < n
 target-in n w h e = target-at n (opcodeOf w) (operandOf w) h (operand-allowed n w e)
@@ -161,7 +171,7 @@ all-fine n i (w ∷ ws) e (suc k) h = all-fine n (suc i) ws (good-word (checkOf 
 pub record Card (words : List ℕ) : Type 0 where
   pub some : 1 ≤ length words
   pub most : length words ≤ 4096
-  pub opcodes : (i : ℕ) → i < length words → opcodeOf (getD words i 0) ≤ 40
+  pub opcodes : (i : ℕ) → i < length words → opcodeOf (getD words i 0) ≤ lastOpcode
   pub permitted : (i : ℕ) → i < length words →
       allows (ruleOf (opcodeOf (getD words i 0))) (lastOf (length words)) (operandOf (getD words i 0)) ≡ true
   pub targets : (i : ℕ) → i < length words → targetOf (decoded (getD words i 0)) < length words

@@ -9,7 +9,7 @@ use mathlib.Core.Path.{_≡_}
 use lib.Dec.{eqb}
 use lib.IntN.{ℤ, pos, negsuc}
 use lib.ListN.{getD}
-use Rattle.text.specs.Bytes.{bytes}
+use Rattle.opcodes.specs.Ascii.{bytes}
 use Rattle.machine.specs.Calls.{Box, stateOf}
 use Rattle.machine.specs.Cards.{card, create, dup, join, load, loadc, lock, mul, newmutex, pop, return, unlock}
 use Rattle.machine.specs.Lists.{Each, upTo}

@@ -1,38 +1,21 @@
-// The names of the opcodes, written and read from a word, and which opcodes have an operand. Inner: the listing and
-// the importer call these functions.
+// The names of the opcodes, written and read from a word, and which opcodes have an operand: the table of opcodes for
+// texts. Inner: the listing and the importer call these functions.
 ghost use Prim.Native.Nat.{_+_, _<_, _≤_};
 ghost use lib.ListN.{length};
 ghost use mathlib.Core.Path.{_≡_};
-ghost use Rattle.instruction.specs.Rules.{ruleOf};
+ghost use Rattle.opcodes.specs.Ascii.{same};
+ghost use Rattle.opcodes.specs.Page.{nameOf, ruleOf};
+ghost use Rattle.opcodes.specs.Rules.{hasOperand};
 ghost use Rattle.text.specs.Lines.{Puts};
-ghost use Rattle.text.specs.Bytes.{same};
-ghost use Rattle.names.specs.Names.{hasOperand, nameOf, opcodeNamed, table};
-use instruction::Rule;
-
-const COUNT: usize = 41;
-
-// The bytes that a name has in the table, at least the last of them a space.
-const WIDTH: usize = 10;
-
-// In the order of the opcodes, from 0.
-pub const TABLE: [u8; 410] =
-    *b"halt      loadc     load      store     loadr     storer    alloc     pop       dup       add       sub       mul       div       mod       neg       eq        neq       less      leq       not       jump      jumpz     mark      call      return    new       create    yield     exit      join      finalize  newmutex  lock      unlock    newcond   wait      signal    broadcast newsema   up        down      ";
+ghost use Rattle.words.specs.Words.{upTo};
+ghost use Rattle.names.specs.Names.{opcodeNamed};
+use opcodes::COUNT;
+use opcodes::Rule;
 
 // What a word names.
 pub enum Named {
     Opcode(u32),
     Unknown,
-}
-
-fn put_entry(out: &mut [u8], at: usize, entries: &[u8], opcode: usize) -> usize
-    requires { ⌜ now entries ≡ table ⌝ }
-    requires { ⌜ opcode < 41 ⌝ }
-    requires { ⌜ at + 10 ≤ length (now out) ⌝ }
-    ensures { λ r. ⌜ Puts (nameOf opcode) (now (out .entry)) at (now (out .exit)) r ⌝ }
-{
-    let start = WIDTH * opcode;
-    let end = words::find(entries, start, b' ');
-    text::put_bytes(out, at, &entries[start..end])
 }
 
 // Writes an opcode's name, which is empty past the last opcode.
@@ -44,50 +27,50 @@ pub fn put_name(out: &mut [u8], at: usize, opcode: usize) -> usize
     if COUNT <= opcode {
         return at;
     }
-    put_entry(out, at, &TABLE, opcode)
+    let entry = opcodes::entry_at(opcode);
+    let name = entry.1;
+    let end = words::find(&name, 0, b' ');
+    text::put_bytes(out, at, &name[..end])
 }
 
-// Whether a word is the name of an opcode.
-fn is_name(word: &[u8], entries: &[u8], opcode: usize) -> bool
-    requires { ⌜ now entries ≡ table ⌝ }
-    requires { ⌜ opcode < 41 ⌝ }
-    ensures { λ r. ⌜ r ≡ same (nameOf opcode) (now (word .entry)) ⌝ }
+// Whether a word is a name of the table, up to its first space.
+fn is_name(word: &[u8], name: &[u8]) -> bool
+    ensures { λ r. ⌜ r ≡ same (upTo 32 (now (name .entry))) (now (word .entry)) ⌝ }
 {
-    let start = WIDTH * opcode;
-    let end = words::find(entries, start, b' ');
-    words::is_same(&entries[start..end], word)
-}
-
-fn find(word: &[u8], entries: &[u8]) -> Named
-    requires { ⌜ now entries ≡ table ⌝ }
-    ensures { λ r. ⌜ r ≡ opcodeNamed (now (word .entry)) ⌝ }
-{
-    let mut k = 0;
-    while k < COUNT {
-        if is_name(word, entries, k) {
-            return Named::Opcode(k as u32);
-        }
-        k += 1;
-    }
-    Named::Unknown
+    let end = words::find(name, 0, b' ');
+    words::is_same(&name[..end], word)
 }
 
 // The opcode that a word names.
 pub fn opcode_named(word: &[u8]) -> Named
     ensures { λ r. ⌜ r ≡ opcodeNamed (now (word .entry)) ⌝ }
 {
-    find(word, &TABLE)
+    let table = opcodes::all();
+    let mut k = 0;
+    while k < COUNT {
+        let entry = table[k];
+        let name = entry.1;
+        if is_name(word, &name) {
+            return Named::Opcode(entry.0);
+        }
+        k += 1;
+    }
+    Named::Unknown
 }
 
 // Whether an instruction's line has an operand: its rule allows more than 0.
 pub fn has_operand(opcode: u32) -> bool
     ensures { λ r. ⌜ r ≡ hasOperand (ruleOf opcode) ⌝ }
 {
-    match instruction::rule_of(opcode) {
-        Rule::Any => true,
-        Rule::Offset => true,
-        Rule::Count => true,
-        Rule::Target => true,
+    let at = opcode as usize;
+    if COUNT <= at {
+        return false;
+    }
+    let entry = opcodes::entry_at(at);
+    let rule = entry.2;
+    match rule {
+        Rule::FromTo(_, _) => true,
+        Rule::ZeroToNMinus1 => true,
         Rule::Zero => false,
     }
 }

@@ -4,7 +4,7 @@
 mod assembler;
 mod calls;
 mod images;
-mod opcodes;
+mod naming;
 mod show;
 
 use libc::STDIN_FILENO;

@@ -19,7 +19,7 @@ use machine::stopped;
 
 pub fn alloc(store: &mut [i32], size: usize, r: Registers, k: usize) -> Registers
     requires { ⌜ Able size r (length (now store)) ⌝ }
-    requires { ⌜ k ≤ 127 ⌝ }
+    requires { ⌜ k ≤ 128 ⌝ }
     ensures { λ q. ⌜ Does size (alloc k) (now (store .entry)) r (now (store .exit)) q ⌝ }
 {
     let cells = r.cells;

@@ -1,3 +1,2 @@
-pub mod Bytes
 pub mod Decimal
 pub mod Lines

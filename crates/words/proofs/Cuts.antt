@@ -7,19 +7,12 @@ use native.Mathlib.Omega.{arith}
 use borrow.Author.Tests.{eqb-true, eq-eqb, not-true}
 use lib.Dec.{eqb}
 use lib.ListN.{length, take, drop}
-use Rattle.text.specs.Bytes.{same}
+use Rattle.opcodes.specs.Ascii.{same}
 use Rattle.words.specs.Words.{join, lacks, onto, split, upTo}
 use Rattle.words.proofs.Clash.{impossible}
 use Rattle.machine.proofs.Every.{and-true, true-and}
 
 -- ---- the same word
-
-pub same-is : (a b : List ℕ) → same a b ≡ true → a ≡ b
-unfolding same
-same-is [] [] e = refl
-same-is [] (c ∷ cs) e = impossible cc
-same-is (b ∷ bs) [] e = impossible cc
-same-is (b ∷ bs) (c ∷ cs) e = let both = and-true (eqb b c) (same bs cs) e in rw (eqb-true b c (both .0), same-is bs cs (both .1))
 
 pub same-self : (a : List ℕ) → same a a ≡ true
 unfolding same

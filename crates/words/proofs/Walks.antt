@@ -10,7 +10,7 @@ use borrow.Author.Tests.{eq-eqb, ne-eqb}
 use lib.Dec.{eqb}
 use lib.ListN.{length, getD, drop, drop-of-length-le}
 use lib.Seq.{drop-cons}
-use Rattle.text.specs.Bytes.{same}
+use Rattle.opcodes.specs.Ascii.{same}
 use Rattle.words.specs.Words.{upTo}
 
 module _ (sep : ℕ) (text : List ℕ) (i : ℕ) where

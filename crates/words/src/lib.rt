@@ -2,7 +2,7 @@
 ghost use Prim.Native.Nat.{_+_, _≤_};
 ghost use lib.ListN.{drop, length};
 ghost use mathlib.Core.Path.{_≡_};
-ghost use Rattle.text.specs.Bytes.{same};
+ghost use Rattle.opcodes.specs.Ascii.{same};
 ghost use Rattle.words.specs.Words.{upTo};
 
 // The place of the next separator from `at` on, or the text's end where there is none.

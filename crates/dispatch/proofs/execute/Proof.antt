@@ -2,6 +2,7 @@
 use native.Mathlib.Omega.{arith}
 use mir.Facts.{toZ-ofZ}
 use Rattle.cells.proofs.Tried.{fit, settles}
+use Rattle.local.proofs.Operands.{cells-few, cells-natural}
 use Rattle.machine.specs.Instructions.{instructionOf}
 use Rattle.dispatch.proofs.Opcodes.{own}
 use borrow.Author.Needs.{needs}
@@ -9,10 +10,10 @@ use Rattle.dispatch.proofs.execute.Statement.{statement}
 use Rattle.dispatch.proofs.execute.Tie as tie
 
 natural-requires : tie.Need-natural-requires
-natural-requires c κs = rw (toZ-ofZ (c .before .before .before .fits .operand)) (c .before .before .before .pre .1 .0 .count (c .before .match .keys2))
+natural-requires c κs = rw (toZ-ofZ (c .before .before .before .fits .operand)) (cells-natural _ _ _ (c .before .before .before .pre .1 .0) (c .before .match .keys2))
 
 alloc-requires : tie.Need-alloc-requires
-alloc-requires c κs = (c .before .before .before .before .pre .0 .able, rw (c .natural .ensures, toZ-ofZ (c .before .before .before .before .fits .operand)) (c .before .before .before .before .pre .1 .0 .few (c .before .before .match .keys2)))
+alloc-requires c κs = (c .before .before .before .before .pre .0 .able, rw (c .natural .ensures, toZ-ofZ (c .before .before .before .before .fits .operand)) (cells-few _ _ _ (c .before .before .before .before .pre .1 .0) (c .before .before .match .keys2)))
 
 finalize-requires : tie.Need-finalize-requires
 finalize-requires c κs = let w = c .before .before .before .before .before .pre .0 in (w .able, (w .good, (w .valued, w .made)))

@@ -1,56 +1,22 @@
--- `instruction::operand` meets its contract: turned by 2^23, the 24 bits are the operand and 2^23 more. Assumes nothing.
-use Prim.Native.Nat.{ℕ, _+_, _-_, _<_, _≤_, _%_}
-use mathlib.Core.Bool.{Bool, true, false}
-use mathlib.Core.Path.{_≡_, _∙_, ap, refl}
+-- `instruction::operand` meets its contract. Assumes nothing.
+use mathlib.Core.Path.{_∙_, ap}
 use native.Mathlib.Omega.{arith}
-use borrow.Author.Needs.{needs}
-use borrow.Author.Tests.{lt-ltb, le-ltb, ltb-true, ltb-false}
-use lib.Dec.{ltb}
-use lib.IntN.{pos, negsuc, _-ℤ_}
+use borrow.Author.Needs.{needs, sfits-of}
 use mir.Syntax.{w32}
-use mir.Val.{SFits, toZ}
-use mir.Facts.{toZ-pos, toZ-ofZ}
+use mir.Facts.{toZ-ofZ}
 use Rattle.instruction.specs.Word.{signed24}
 use Rattle.instruction.proofs.operand.Statement.{statement}
 use Rattle.instruction.proofs.operand.Tie as tie
 
-read-back : (x : ℕ) → toZ w32 (x % 16777216) ≡ pos (x % 16777216)
-read-back x = toZ-pos w32 (omega arith)
-
--- 24 bits less 2^23 fit an i32
-fits : (x : ℕ) (b : Bool) → ltb x 8388608 ≡ b → x < 16777216 → SFits w32 (pos x -ℤ pos 8388608)
-fits x true h high = record { sfits = rw h (omega arith) }
-fits x false h high = record { sfits = rw h (omega arith) }
-
--- the turned bits, by the sign
-low : (b : ℕ) → b < 8388608 → (b + 8388608) % 16777216 ≡ b + 8388608
-low b h = omega arith
-
-high : (b : ℕ) → 8388608 ≤ b → b < 16777216 → (b + 8388608) % 16777216 ≡ b - 8388608
-high b h k = omega arith
-
--- less 2^23 they are the signed number
-is : (b : ℕ) (s : Bool) → ltb b 8388608 ≡ s → b < 16777216 → pos ((b + 8388608) % 16777216) -ℤ pos 8388608 ≡ signed24 b
-is b true h k = rw (low b (ltb-true b 8388608 h), h, le-ltb (b + 8388608) 8388608 (omega arith)) (ap pos (omega arith))
-is b false h k =
-    rw (high b (ltb-false b 8388608 h) k, h, lt-ltb (b - 8388608) 8388608 (omega (arith, ltb-false b 8388608 h, k)), lt-ltb b 16777216 k)
-    (ap negsuc (omega (arith, ltb-false b 8388608 h, k)))
-
-less : (w : ℕ) → SFits w32 (toZ w32 ((w % 16777216 + 8388608) % 16777216) -ℤ pos 8388608)
-less w = rw (read-back (w % 16777216 + 8388608)) (fits ((w % 16777216 + 8388608) % 16777216) _ refl (omega arith))
-
-sub-result : tie.Need-sub-result
-sub-result c = less (c .args .w)
+signed-requires : tie.Need-signed-requires
+signed-requires c κs = omega (arith, c .bits .ensures)
 
 returns : tie.Need-returns
 returns c =
-    toZ-ofZ (less (c .args .w))
-    ∙ ap (λ z. z -ℤ pos 8388608) (read-back (c .args .w % 16777216 + 8388608))
-    ∙ is (c .args .w % 16777216) _ refl (omega arith)
+    rw (toZ-ofZ (sfits-of {w = w32} {z = c .signed .result} (c .signed .ok))) (c .signed .ensures ∙ ap signed24 (c .before .bits .ensures))
 
 pub operand-spec : {M : Type 1} → statement M
 operand-spec = tie.close (tie.spec
-    (λ c. search needs)
-    (λ c. search needs)
-    sub-result
+    (λ c κs. search needs)
+    signed-requires
     returns)

@@ -2,6 +2,7 @@
 use native.Mathlib.Omega.{arith}
 use Rattle.cells.proofs.Tests.{read-back}
 use Rattle.machine.specs.Instructions.{instructionOf}
+use Rattle.local.proofs.Operands.{target-below, target-natural}
 use Rattle.local.proofs.Ventured.{another, tried, went-back}
 use borrow.Author.Needs.{needs}
 use Rattle.local.proofs.execute.Statement.{statement}
@@ -9,15 +10,15 @@ use Rattle.local.proofs.execute.Tie as tie
 
 natural-requires : tie.Need-natural-requires
 natural-requires c κs =
-    rw (read-back (c .operand4 .ok) (c .operand4 .ensures)) (c .before .before .before .pre .1 .target (omega (arith, c .before .before .opcode .ensures, c .before .match .keys19)) (omega (arith, c .before .before .opcode .ensures, c .before .match .keys19)))
+    rw (read-back (c .operand4 .ok) (c .operand4 .ensures)) (target-natural _ _ _ (c .before .before .before .pre .1) (omega (arith, c .before .before .opcode .ensures, c .before .match .keys19)) (omega (arith, c .before .before .opcode .ensures, c .before .match .keys19)))
 
 natural-requires-2 : tie.Need-natural-requires-2
 natural-requires-2 c κs =
-    rw (read-back (c .operand5 .ok) (c .operand5 .ensures)) (c .before .before .before .before .pre .1 .target (omega (arith, c .before .before .before .opcode .ensures, c .before .before .match .keys20)) (omega (arith, c .before .before .before .opcode .ensures, c .before .before .match .keys20)))
+    rw (read-back (c .operand5 .ok) (c .operand5 .ensures)) (target-natural _ _ _ (c .before .before .before .before .pre .1) (omega (arith, c .before .before .before .opcode .ensures, c .before .before .match .keys20)) (omega (arith, c .before .before .before .opcode .ensures, c .before .before .match .keys20)))
 
 jumpz-requires : tie.Need-jumpz-requires
 jumpz-requires c κs =
-    (c .before .before .before .before .before .pre .0, rw (c .natural2 .ensures, read-back (c .before .operand5 .ok) (c .before .operand5 .ensures)) (c .before .before .before .before .before .pre .1 .within (omega (arith, c .before .before .before .before .opcode .ensures, c .before .before .before .match .keys20)) (omega (arith, c .before .before .before .before .opcode .ensures, c .before .before .before .match .keys20))))
+    (c .before .before .before .before .before .pre .0, rw (c .natural2 .ensures, read-back (c .before .operand5 .ok) (c .before .operand5 .ensures)) (target-below _ _ _ (c .before .before .before .before .before .pre .1) (omega (arith, c .before .before .before .before .opcode .ensures, c .before .before .before .match .keys20)) (omega (arith, c .before .before .before .before .opcode .ensures, c .before .before .before .match .keys20))))
 
 returns-24 : tie.Need-returns-24
 returns-24 c = rw (c .stopped .ensures) another

@@ -4,7 +4,7 @@ use mathlib.Core.Path.{_≡_, refl, sym, _∙_}
 use native.Mathlib.Omega.{arith}
 use borrow.Author.Needs.{needs}
 use lib.ListN.{length, drop}
-use Rattle.text.specs.Bytes.{same}
+use Rattle.opcodes.specs.Ascii.{same}
 use Rattle.words.proofs.Walks.{other-length, same-end, same-none, same-on}
 use Rattle.words.proofs.is_same.Statement.{statement}
 use Rattle.words.proofs.is_same.Tie as tie

@@ -1,6 +1,7 @@
 -- `dispatch::own::attempt` meets its contract. Each arm is the instruction of its opcode. Assumes nothing.
 use native.Mathlib.Omega.{arith}
 use mir.Facts.{toZ-ofZ}
+use Rattle.local.proofs.Operands.{target-below, target-natural}
 use Rattle.machine.specs.Instructions.{instructionOf}
 use Rattle.dispatch.proofs.Opcodes.{call-left}
 use borrow.Author.Needs.{needs}
@@ -8,13 +9,13 @@ use Rattle.dispatch.proofs.own.attempt.Statement.{statement}
 use Rattle.dispatch.proofs.own.attempt.Tie as tie
 
 natural-requires : tie.Need-natural-requires
-natural-requires c κs = rw (toZ-ofZ (c .before .fits .operand)) (c .before .pre .1 .0 .target (omega (arith, c .match .keys19)) (omega (arith, c .match .keys19)))
+natural-requires c κs = rw (toZ-ofZ (c .before .fits .operand)) (target-natural _ _ _ (c .before .pre .1 .0) (omega (arith, c .match .keys19)) (omega (arith, c .match .keys19)))
 
 natural-requires-2 : tie.Need-natural-requires-2
-natural-requires-2 c κs = rw (toZ-ofZ (c .before .before .fits .operand)) (c .before .before .pre .1 .0 .target (omega (arith, c .before .match .keys20)) (omega (arith, c .before .match .keys20)))
+natural-requires-2 c κs = rw (toZ-ofZ (c .before .before .fits .operand)) (target-natural _ _ _ (c .before .before .pre .1 .0) (omega (arith, c .before .match .keys20)) (omega (arith, c .before .match .keys20)))
 
 jumpz-requires : tie.Need-jumpz-requires
-jumpz-requires c κs = (c .before .before .before .pre .0, rw (c .natural2 .ensures, toZ-ofZ (c .before .before .before .fits .operand)) (c .before .before .before .pre .1 .0 .within (omega (arith, c .before .before .match .keys20)) (omega (arith, c .before .before .match .keys20))))
+jumpz-requires c κs = (c .before .before .before .pre .0, rw (c .natural2 .ensures, toZ-ofZ (c .before .before .before .fits .operand)) (target-below _ _ _ (c .before .before .before .pre .1 .0) (omega (arith, c .before .before .match .keys20)) (omega (arith, c .before .before .match .keys20))))
 
 pub attempt-spec : {M : Type 1} → statement M
 unfolding instructionOf

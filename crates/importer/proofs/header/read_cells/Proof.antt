@@ -8,7 +8,7 @@ use borrow.Author.Tests.{not-false, not-true}
 use denote.Ref.{now}
 use lib.ListN.{length}
 use lib.Seq.{length-take-le}
-use Rattle.text.specs.Bytes.{bytes}
+use Rattle.opcodes.specs.Ascii.{bytes}
 use Rattle.importer.specs.Coding.{codedCells}
 use Rattle.importer.specs.Forms.{headerRead}
 use Rattle.importer.proofs.Spelling.{header-is, no-number, other-header, uncut}

@@ -7,6 +7,7 @@ use denote.Ref.{now}
 use lib.ListN.{length}
 use lib.Seq.{length-take-le}
 use Rattle.names.proofs.Table.{named-is}
+use Rattle.opcodes.proofs.Rows.{all-lines}
 use Rattle.importer.specs.Coding.{codedEntry}
 use Rattle.importer.proofs.Spelling.{bare-item, full-item, unknown}
 use Rattle.importer.proofs.items.read_item.Statement.{statement}
@@ -21,7 +22,7 @@ returns c =
     sym (ap codedEntry (unknown (now (c .before .before .before .before .before .before .args .rest)) (c .before .before .before .before .find .result) (c .before .before .before .before .find .ensures .0) (c .before .before .before .before .find .ensures .1) name))
 
 bare-requires : tie.Need-bare-requires
-bare-requires c κs = named-is _ _ (sym (c .before .before .before .before .opcode-named .ensures) ∙ c .before .before .opcode .given .1) .0
+bare-requires c κs = omega (arith, named-is _ _ (sym (c .before .before .before .before .opcode-named .ensures) ∙ c .before .before .opcode .given .1) .0, all-lines)
 
 returns-2 : tie.Need-returns-2
 returns-2 c =
@@ -29,7 +30,7 @@ returns-2 c =
     c .bare .ensures ∙ ap codedEntry (bare-item (now (c .before .before .before .before .before .before .before .before .before .args .rest)) (c .before .before .before .before .before .before .before .find .result) (c .before .before .before .before .before .before .before .find .ensures .0) _ (c .before .if1 .taken) name)
 
 full-requires : tie.Need-full-requires
-full-requires c κs = named-is _ _ (sym (c .before .before .before .before .before .opcode-named .ensures) ∙ c .before .before .before .opcode .given .1) .0
+full-requires c κs = omega (arith, named-is _ _ (sym (c .before .before .before .before .before .opcode-named .ensures) ∙ c .before .before .before .opcode .given .1) .0, all-lines)
 
 returns-3 : tie.Need-returns-3
 returns-3 c =

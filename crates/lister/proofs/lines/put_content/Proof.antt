@@ -2,7 +2,7 @@
 use mathlib.Core.Path.{ap}
 use borrow.Author.Needs.{needs}
 use Rattle.text.proofs.Lines.{both, of}
-use Rattle.names.specs.Names.{nameOf}
+use Rattle.opcodes.specs.Page.{nameOf}
 use Rattle.lister.proofs.Spelled.{header-content, instruction-content}
 use Rattle.lister.proofs.lines.put_content.Statement.{statement}
 use Rattle.lister.proofs.lines.put_content.Tie as tie

@@ -9,10 +9,10 @@ use borrow.Author.Tests.{not-false, not-true}
 use mir.Facts.{toZ-ofZ}
 use mir.Syntax.{w32}
 use lib.IntN.{ℤ}
-use Rattle.instruction.specs.Rules.{ruleOf}
+use Rattle.opcodes.specs.Page.{ruleOf}
 use Rattle.text.specs.Decimal.{signed}
 use Rattle.text.proofs.Lines.{both, of}
-use Rattle.names.specs.Names.{hasOperand}
+use Rattle.opcodes.specs.Rules.{hasOperand}
 use Rattle.lister.proofs.Spelled.{no-operand}
 use Rattle.lister.proofs.lines.put_operand.Statement.{statement}
 use Rattle.lister.proofs.lines.put_operand.Tie as tie

@@ -1,7 +1,7 @@
 -- `lister::lines::put_start` meets its contract. Assumes nothing.
 use borrow.Author.Needs.{needs}
 use Rattle.text.proofs.Lines.{of}
-use Rattle.text.specs.Bytes.{bytes}
+use Rattle.opcodes.specs.Ascii.{bytes}
 use Rattle.lister.proofs.Spelled.{address-start, header-start}
 use Rattle.lister.proofs.lines.put_start.Statement.{statement}
 use Rattle.lister.proofs.lines.put_start.Tie as tie

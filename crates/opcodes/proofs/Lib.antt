@@ -1,0 +1,3 @@
+pub mod Each
+pub mod Same
+pub mod Rows

@@ -1,0 +1,4 @@
+pub mod Ascii
+pub mod Rules
+pub mod Page
+pub mod Table
