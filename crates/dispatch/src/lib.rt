@@ -14,6 +14,7 @@ use cells::past;
 use cells::settled;
 use local::natural;
 use machine::Registers;
+use opcodes::opcode;
 
 pub fn execute(
     store: &mut [i32],
@@ -34,22 +35,22 @@ pub fn execute(
         (now (values .entry)) r (now (store .exit)) (now (tables .exit)) (now (values .exit)) q ⌝ }
 {
     match opcode {
-        0 => control::halt(r),
-        6 => stack::alloc(store, size, r, natural(operand)),
-        24 => endings::return_from(store, tables, values, size, r, n),
-        25 => shared::fresh(store, size, r),
-        26 => threads::create(store, tables, size, r, n),
-        28 => endings::exit(store, tables, values, size, r),
-        29 => endings::join(store, tables, size, r),
-        30 => endings::finalize(store, tables, values, size, r),
-        31 => locks::newmutex(store, size, r),
-        34 => conditions::newcond(store, size, r),
-        35 => conditions::wait(store, tables, size, r),
-        36 => conditions::signal(store, tables, size, r),
-        37 => conditions::broadcast(store, tables, size, r),
-        38 => semaphores::newsema(store, values, size, r),
-        39 => semaphores::up(store, tables, values, size, r),
-        40 => semaphores::down(store, tables, values, size, r),
+        opcode::HALT => control::halt(r),
+        opcode::ALLOC => stack::alloc(store, size, r, natural(operand)),
+        opcode::RETURN => endings::return_from(store, tables, values, size, r, n),
+        opcode::NEW => shared::fresh(store, size, r),
+        opcode::CREATE => threads::create(store, tables, size, r, n),
+        opcode::EXIT => endings::exit(store, tables, values, size, r),
+        opcode::JOIN => endings::join(store, tables, size, r),
+        opcode::FINALIZE => endings::finalize(store, tables, values, size, r),
+        opcode::NEWMUTEX => locks::newmutex(store, size, r),
+        opcode::NEWCOND => conditions::newcond(store, size, r),
+        opcode::WAIT => conditions::wait(store, tables, size, r),
+        opcode::SIGNAL => conditions::signal(store, tables, size, r),
+        opcode::BROADCAST => conditions::broadcast(store, tables, size, r),
+        opcode::NEWSEMA => semaphores::newsema(store, values, size, r),
+        opcode::UP => semaphores::up(store, tables, values, size, r),
+        opcode::DOWN => semaphores::down(store, tables, values, size, r),
         // From loadc to call.
         _ => settled(
             r,

@@ -9,6 +9,7 @@ ghost use Rattle.machine.specs.Instructions.{instructionOf};
 use local::natural;
 use machine::Attempt;
 use machine::Context;
+use opcodes::opcode;
 
 // Tries the instruction in context `c`, with PC past it.
 pub fn attempt(
@@ -27,27 +28,27 @@ pub fn attempt(
         ⌜ TriesIn size n (instructionOf opcode operand) (now (store .entry)) t c (now (store .exit)) a ⌝ }
 {
     match opcode {
-        1 => stack::loadc(store, size, t, c, operand),
-        2 => shared::load(store, size, t, c),
-        3 => shared::store_cell(store, size, t, c),
-        4 => stack::loadr(store, size, t, c, operand),
-        5 => stack::storer(store, size, t, c, operand),
-        7 => stack::pop(c),
-        8 => stack::dup(store, size, t, c),
-        9 => operators::binary(store, size, t, c, 9),
-        10 => operators::binary(store, size, t, c, 10),
-        11 => operators::binary(store, size, t, c, 11),
-        12 => operators::binary(store, size, t, c, 12),
-        13 => operators::binary(store, size, t, c, 13),
-        14 => operators::neg(store, size, t, c),
-        15 => operators::compare(store, size, t, c, 15),
-        16 => operators::compare(store, size, t, c, 16),
-        17 => operators::compare(store, size, t, c, 17),
-        18 => operators::compare(store, size, t, c, 18),
-        19 => operators::not(store, size, t, c),
-        20 => control::jump(c, natural(operand)),
-        21 => control::jumpz(store, size, t, c, natural(operand), n),
-        22 => stack::mark(store, size, t, c),
+        opcode::LOADC => stack::loadc(store, size, t, c, operand),
+        opcode::LOAD => shared::load(store, size, t, c),
+        opcode::STORE => shared::store_cell(store, size, t, c),
+        opcode::LOADR => stack::loadr(store, size, t, c, operand),
+        opcode::STORER => stack::storer(store, size, t, c, operand),
+        opcode::POP => stack::pop(c),
+        opcode::DUP => stack::dup(store, size, t, c),
+        opcode::ADD => operators::binary(store, size, t, c, opcode::ADD),
+        opcode::SUB => operators::binary(store, size, t, c, opcode::SUB),
+        opcode::MUL => operators::binary(store, size, t, c, opcode::MUL),
+        opcode::DIV => operators::binary(store, size, t, c, opcode::DIV),
+        opcode::MOD => operators::binary(store, size, t, c, opcode::MOD),
+        opcode::NEG => operators::neg(store, size, t, c),
+        opcode::EQ => operators::compare(store, size, t, c, opcode::EQ),
+        opcode::NEQ => operators::compare(store, size, t, c, opcode::NEQ),
+        opcode::LESS => operators::compare(store, size, t, c, opcode::LESS),
+        opcode::LEQ => operators::compare(store, size, t, c, opcode::LEQ),
+        opcode::NOT => operators::not(store, size, t, c),
+        opcode::JUMP => control::jump(c, natural(operand)),
+        opcode::JUMPZ => control::jumpz(store, size, t, c, natural(operand), n),
+        opcode::MARK => stack::mark(store, size, t, c),
         // Call is all that is left.
         _ => control::call(store, size, t, c, n),
     }

@@ -17,12 +17,7 @@ use crate::stretches::stretch;
 use machine::Registers;
 use machine::Thread;
 use machine::states;
-
-const YIELD: u32 = 27;
-
-const LOCK: u32 = 32;
-
-const UNLOCK: u32 = 33;
+use opcodes::opcode;
 
 pub struct Standing {
     pub registers: Registers,
@@ -33,13 +28,13 @@ pub struct Standing {
 fn is_turn(opcode: u32) -> bool
     ensures { λ b. ⌜ Tells (Turning opcode) b ⌝ }
 {
-    if opcode == YIELD {
+    if opcode == opcode::YIELD {
         return true;
     }
-    if opcode == LOCK {
+    if opcode == opcode::LOCK {
         return true;
     }
-    opcode == UNLOCK
+    opcode == opcode::UNLOCK
 }
 
 // Carries out yield, lock or unlock. The first `skip` of the line don't live, so a search starts behind them.
@@ -61,10 +56,10 @@ fn turn(
         ⌜ Acts size (instructionOf opcode (pos 0)) (now (store .entry)) (now (tables .entry)) r
         (now (store .entry)) (now (tables .exit)) q ⌝ }
 {
-    if opcode == YIELD {
+    if opcode == opcode::YIELD {
         return threads::yield_turn(tables, size, r, skip);
     }
-    if opcode == LOCK {
+    if opcode == opcode::LOCK {
         return locks::lock(store, tables, size, r, skip);
     }
     locks::unlock(store, tables, size, r, skip)

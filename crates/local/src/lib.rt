@@ -10,6 +10,7 @@ ghost use Rattle.local.specs.Contract.{Natural, Permitted, Ventures};
 use machine::Attempt;
 use machine::Context;
 use machine::stopped;
+use opcodes::opcode;
 
 // In place of a fault's number, where the instruction is another: no fault has it.
 const ANOTHER: usize = 1;
@@ -29,29 +30,29 @@ pub fn execute(store: &mut [i32], size: usize, t: usize, n: usize, c: Context, w
     ensures { λ a. ⌜ Ventures size n w (now (store .entry)) t c (now (store .exit)) a ⌝ }
 {
     match instruction::opcode(w) {
-        1 => stack::loadc(store, size, t, c, instruction::operand(w)),
-        2 => shared::load(store, size, t, c),
-        3 => shared::store_cell(store, size, t, c),
-        4 => stack::loadr(store, size, t, c, instruction::operand(w)),
-        5 => stack::storer(store, size, t, c, instruction::operand(w)),
-        7 => stack::pop(c),
-        8 => stack::dup(store, size, t, c),
-        9 => operators::binary(store, size, t, c, 9),
-        10 => operators::binary(store, size, t, c, 10),
-        11 => operators::binary(store, size, t, c, 11),
-        12 => operators::binary(store, size, t, c, 12),
-        13 => operators::binary(store, size, t, c, 13),
-        14 => operators::neg(store, size, t, c),
-        15 => operators::compare(store, size, t, c, 15),
-        16 => operators::compare(store, size, t, c, 16),
-        17 => operators::compare(store, size, t, c, 17),
-        18 => operators::compare(store, size, t, c, 18),
-        19 => operators::not(store, size, t, c),
-        20 => control::jump(c, natural(instruction::operand(w))),
-        21 => control::jumpz(store, size, t, c, natural(instruction::operand(w)), n),
-        22 => stack::mark(store, size, t, c),
-        23 => control::call(store, size, t, c, n),
-        24 => control::back(store, size, t, c, n),
+        opcode::LOADC => stack::loadc(store, size, t, c, instruction::operand(w)),
+        opcode::LOAD => shared::load(store, size, t, c),
+        opcode::STORE => shared::store_cell(store, size, t, c),
+        opcode::LOADR => stack::loadr(store, size, t, c, instruction::operand(w)),
+        opcode::STORER => stack::storer(store, size, t, c, instruction::operand(w)),
+        opcode::POP => stack::pop(c),
+        opcode::DUP => stack::dup(store, size, t, c),
+        opcode::ADD => operators::binary(store, size, t, c, opcode::ADD),
+        opcode::SUB => operators::binary(store, size, t, c, opcode::SUB),
+        opcode::MUL => operators::binary(store, size, t, c, opcode::MUL),
+        opcode::DIV => operators::binary(store, size, t, c, opcode::DIV),
+        opcode::MOD => operators::binary(store, size, t, c, opcode::MOD),
+        opcode::NEG => operators::neg(store, size, t, c),
+        opcode::EQ => operators::compare(store, size, t, c, opcode::EQ),
+        opcode::NEQ => operators::compare(store, size, t, c, opcode::NEQ),
+        opcode::LESS => operators::compare(store, size, t, c, opcode::LESS),
+        opcode::LEQ => operators::compare(store, size, t, c, opcode::LEQ),
+        opcode::NOT => operators::not(store, size, t, c),
+        opcode::JUMP => control::jump(c, natural(instruction::operand(w))),
+        opcode::JUMPZ => control::jumpz(store, size, t, c, natural(instruction::operand(w)), n),
+        opcode::MARK => stack::mark(store, size, t, c),
+        opcode::CALL => control::call(store, size, t, c, n),
+        opcode::RETURN => control::back(store, size, t, c, n),
         _ => stopped(c, ANOTHER),
     }
 }

@@ -1,4 +1,5 @@
-// The table of opcodes. Inner: the card's check and its text look there.
+// The opcodes: their table, and a name for each number. Inner: the card's check, its text and the machine look there.
+pub mod opcode;
 mod table;
 
 pub use table::COUNT;

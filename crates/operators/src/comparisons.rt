@@ -11,14 +11,15 @@ use machine::Context;
 use machine::done;
 use machine::faults;
 use machine::stopped;
+use opcodes::opcode;
 
 fn test(op: u32, a: i32, b: i32) -> bool
     ensures { λ r. ⌜ r ≡ tested op a b ⌝ }
 {
     match op {
-        15 => arithmetic::equal(a, b),
-        16 => !arithmetic::equal(a, b),
-        17 => arithmetic::less(a, b),
+        opcode::EQ => arithmetic::equal(a, b),
+        opcode::NEQ => !arithmetic::equal(a, b),
+        opcode::LESS => arithmetic::less(a, b),
         _ => arithmetic::at_most(a, b),
     }
 }

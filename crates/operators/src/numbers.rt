@@ -14,12 +14,13 @@ use machine::Context;
 use machine::done;
 use machine::faults;
 use machine::stopped;
+use opcodes::opcode;
 
-// Opcodes 12 and 13 divide, and have no result by 0.
+// Of the opcodes from add to mod, div and mod divide, and have no result by 0.
 fn lacks_divisor(op: u32, b: i32) -> bool
     ensures { λ r. ⌜ r ≡ leb 12 op && eqZ b (pos 0) ⌝ }
 {
-    12 <= op && arithmetic::is_zero(b)
+    opcode::DIV <= op && arithmetic::is_zero(b)
 }
 
 fn compute(op: u32, a: i32, b: i32) -> i64
@@ -28,10 +29,10 @@ fn compute(op: u32, a: i32, b: i32) -> i64
     ensures { λ r. ⌜ r ≡ computed op a b ⌝ }
 {
     match op {
-        9 => arithmetic::sum(a, b),
-        10 => arithmetic::difference(a, b),
-        11 => arithmetic::product(a, b),
-        12 => arithmetic::quotient(a, b),
+        opcode::ADD => arithmetic::sum(a, b),
+        opcode::SUB => arithmetic::difference(a, b),
+        opcode::MUL => arithmetic::product(a, b),
+        opcode::DIV => arithmetic::quotient(a, b),
         _ => arithmetic::remainder(a, b),
     }
 }
