@@ -1,7 +1,7 @@
 // The search for a card's first bad instruction, in a list of words and in the code part of an image: each takes the
 // rules from the table of opcodes. Inner.
 ghost use mathlib.Core.Path.{_≡_};
-ghost use Prim.Native.Nat.{_*_, _≤_};
+ghost use Prim.Native.Nat.{_*_};
 ghost use lib.Dec.{ltb};
 ghost use lib.ListN.{length};
 ghost use Rattle.opcodes.specs.Page.{page};

@@ -1,7 +1,7 @@
 -- The check goes by the paper's sentence on operands. Assumes nothing.
 use Prim.Native.Nat.{ℕ, suc, _-_, _<_, _≤_, _%_}
 use mathlib.Core.Bool.{Bool, true, false, cond, _||_}
-use mathlib.Core.Path.{_≡_, refl, _∙_}
+use mathlib.Core.Path.{_≡_, refl}
 use native.Mathlib.Omega.{arith}
 use borrow.Author.Tests.{le-leb, lt-ltb, ltb-false, ltb-true}
 use lib.Dec.{eqb, ltb}
@@ -13,7 +13,7 @@ use Rattle.opcodes.specs.declared.table.Rule.the-variants.{Zero, FromTo, ZeroTo
 use Rattle.opcodes.proofs.Each.{at-each, each}
 use Rattle.opcodes.proofs.Rows.{in-page, last-is}
 use Rattle.opcodes.proofs.Same.{same-rule, sameRule}
-use Rattle.instruction.specs.Rules.{Verdict, Fine, BadOpcode, BadOperand}
+use Rattle.instruction.specs.Rules.{Fine, BadOpcode, BadOperand}
 use Rattle.instruction.specs.Sentence.{BySentence, operands}
 use Rattle.instruction.specs.Word.{opcodeOf, operandOf, signed24}
 

@@ -9,7 +9,8 @@ use Rattle.opcodes.specs.Rules.{isBetween}
 use Rattle.instruction.specs.Rules.{Verdict, Fine, BadOpcode, BadOperand, checkOf}
 use Rattle.instruction.specs.Word.{opcodeOf, operandOf}
 
--- "Operands: k of loadr and storer −128 to 127, of alloc 0 to 127, a is 0 to n−1, loadc any of 24 bits; elsewhere 0"
+-- "Operands: k of loadr and storer −128 to 127, of alloc 0 to 127, a is 0 to n−1, loadc any of 24 bits; elsewhere 0".
+-- loadr and storer are 4 and 5, alloc is 6, those with an a are 20 jump and 21 jumpz, loadc is 1
 abbrev pub operands : ℕ → ℤ → ℤ → Bool
 operands opcode last k =
     cond (eqb opcode 4 || eqb opcode 5) (isBetween (minus 128) (pos 127) k)

@@ -6,21 +6,13 @@ use mathlib.Core.List.{List, [], _∷_}
 use native.Mathlib.Omega.{arith}
 use lib.Dec.{eqb, ltb}
 use borrow.Author.Tests.{eq-eqb, ne-eqb, eqb-true, eqb-false, ltb-true, ltb-false, leb-true, leb-false, lt-ltb, le-ltb, le-leb, lt-leb}
+pub use Rattle.opcodes.proofs.Each.{and-true, never}
 use Rattle.machine.specs.Lists.{count, every, some}
 use Rattle.machine.specs.WellFormed.{allBelow}
 use Rattle.machine.proofs.Lists.{cases}
 
 -- linear arithmetic that reads and proves tests
 pub ruleset tests = (arith, eqb-true, ltb-true, ltb-false, leb-true, leb-false, eq-eqb, ne-eqb, lt-ltb, le-ltb, le-leb, lt-leb)
-
--- a failed test did not pass
-pub never : {X : Type 0} → false ≡ true → X
-never e = absurd (let z : _≡_ {A = ℕ} 0 1 = cc in omega arith)
-
--- both tests passed
-pub and-true : (a b : Bool) → (a && b) ≡ true → (a ≡ true) × (b ≡ true)
-and-true true b e = (refl, e)
-and-true false b e = never e
 
 pub and-first : (a b : Bool) → (a && b) ≡ true → a ≡ true
 and-first a b e = and-true a b e .0

@@ -14,7 +14,7 @@ use Rattle.opcodes.specs.Page.{Line, blank, lineOf, nameOf, page, ruleOf}
 use Rattle.opcodes.specs.Rules.{hasOperand}
 use Rattle.opcodes.specs.Table.{entryOf, padded}
 use Rattle.opcodes.specs.declared.table.Entry.{Entry}
-use Rattle.opcodes.proofs.Each.{at-each, both, each, never}
+use Rattle.opcodes.proofs.Each.{and-true, at-each, each, never}
 use Rattle.opcodes.proofs.Same.{same-is}
 use Rattle.text.specs.Lines.{Puts}
 use Rattle.words.specs.Words.{lacks, upTo}
@@ -73,12 +73,12 @@ pub record Right (k : ℕ) : Type 0 where
 pub right : (k : ℕ) → k < length page → Right k
 right k h =
     let line = lineOf k in
-    let all = both (isNumbered k line) _ (at-each isRight page blank all-right k h) in
-    let named = both (isEntry line) _ (all .1) in
-    let written = both (same (upTo 32 (padded (nameOf k))) (nameOf k)) _ (named .0) in
-    let more = both (isShort line) _ (named .1) in
-    let last = both (isWord line) _ (more .1) in
-    let word = both (lacks 32 (nameOf k)) (lacks 10 (nameOf k)) (last .0) in
+    let all = and-true (isNumbered k line) _ (at-each isRight page blank all-right k h) in
+    let named = and-true (isEntry line) _ (all .1) in
+    let written = and-true (same (upTo 32 (padded (nameOf k))) (nameOf k)) _ (named .0) in
+    let more = and-true (isShort line) _ (named .1) in
+    let last = and-true (isWord line) _ (more .1) in
+    let word = and-true (lacks 32 (nameOf k)) (lacks 10 (nameOf k)) (last .0) in
     record {
       number = eqb-true _ _ (all .0);
       entry = same-is _ _ (written .0);
@@ -96,7 +96,7 @@ named-in : (k : ℕ) (lines : List Line) (other : Line) (word : List ℕ) (opcod
 unfolding namedIn
 named-in k [] other word opcode numbered e = impossible cc
 named-in k (line ∷ rest) other word opcode numbered e =
-    let counted = both (isNumbered k line) (each isNumbered (suc k) rest) numbered in
+    let counted = and-true (isNumbered k line) (each isNumbered (suc k) rest) numbered in
     by (same (line .name) word) refl e (eqb-true _ _ (counted .0)) (named-in (suc k) rest other word opcode (counted .1))
   where
     by : (t : Bool) → same (line .name) word ≡ t →

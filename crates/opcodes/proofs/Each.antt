@@ -2,7 +2,7 @@
 use Prim.Native.Nat.{ℕ, zero, suc, _+_, _<_}
 use mathlib.Core.Bool.{Bool, true, false, _&&_}
 use mathlib.Core.List.{List, [], _∷_}
-use mathlib.Core.Path.{_≡_, refl, _∙_, ap}
+use mathlib.Core.Path.{_≡_, refl}
 use native.Mathlib.Omega.{arith}
 use lib.ListN.{getD, length}
 
@@ -10,9 +10,10 @@ use lib.ListN.{getD, length}
 pub never : {X : Type 0} → false ≡ true → X
 never e = absurd (let z : _≡_ {A = ℕ} 0 1 = cc in omega arith)
 
-pub both : (a b : Bool) → (a && b) ≡ true → (a ≡ true) × (b ≡ true)
-both true b e = (refl, e)
-both false b e = never e
+-- both tests passed
+pub and-true : (a b : Bool) → (a && b) ≡ true → (a ≡ true) × (b ≡ true)
+and-true true b e = (refl, e)
+and-true false b e = never e
 
 module _ {A : Type 0} (test : ℕ → A → Bool) where
   -- the test passes at each entry and its place, counted from one
@@ -25,10 +26,10 @@ module _ {A : Type 0} (test : ℕ → A → Bool) where
   from [] other first k e h = absurd (omega arith)
   from (x ∷ xs) other first zero e h =
       let here : first + 0 ≡ first = omega arith in
-      rw here (both (test first x) (each (suc first) xs) e .0)
+      rw here (and-true (test first x) (each (suc first) xs) e .0)
   from (x ∷ xs) other first (suc k) e h =
       let there : first + suc k ≡ suc first + k = omega arith in
-      rw there (from xs other (suc first) k (both (test first x) (each (suc first) xs) e .1) (omega arith))
+      rw there (from xs other (suc first) k (and-true (test first x) (each (suc first) xs) e .1) (omega arith))
 
   -- so it passes at any of them
   pub at-each : (xs : List A) (other : A) → each 0 xs ≡ true → (k : ℕ) → k < length xs →

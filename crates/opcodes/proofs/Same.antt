@@ -10,7 +10,7 @@ use Rattle.opcodes.specs.Ascii.{same}
 use Rattle.opcodes.specs.declared.table.Entry.{Entry}
 use Rattle.opcodes.specs.declared.table.Rule.{Rule}
 use Rattle.opcodes.specs.declared.table.Rule.the-variants.{Zero, FromTo, ZeroToNMinus1}
-use Rattle.opcodes.proofs.Each.{both, never}
+use Rattle.opcodes.proofs.Each.{and-true, never}
 
 abbrev sameZ : ℤ → ℤ → Bool
 sameZ (pos a) (pos b) = eqb a b
@@ -30,7 +30,7 @@ same-is [] [] e = refl
 same-is [] (y ∷ ys) e = never e
 same-is (x ∷ xs) [] e = never e
 same-is (x ∷ xs) (y ∷ ys) e =
-    let p = both (eqb x y) (same xs ys) e in
+    let p = and-true (eqb x y) (same xs ys) e in
     ap₂ _∷_ (eqb-true x y (p .0)) (same-is xs ys (p .1))
 
 abbrev pub sameRule : Rule → Rule → Bool
@@ -50,7 +50,7 @@ same-rule Zero (FromTo low high) e = never e
 same-rule Zero ZeroToNMinus1 e = never e
 same-rule (FromTo low high) Zero e = never e
 same-rule (FromTo low high) (FromTo least most) e =
-    let p = both (sameZ low least) (sameZ high most) e in
+    let p = and-true (sameZ low least) (sameZ high most) e in
     ap₂ FromTo (same-z low least (p .0)) (same-z high most (p .1))
 same-rule (FromTo low high) ZeroToNMinus1 e = never e
 same-rule ZeroToNMinus1 Zero e = never e
@@ -62,8 +62,8 @@ sameEntry a b = eqb (a .0) (b .0) && (same (a .1) (b .1) && sameRule (a .2) (b .
 
 pub same-entry : (a b : Entry) → sameEntry a b ≡ true → a ≡ b
 same-entry a b e =
-    let p = both (eqb (a .0) (b .0)) (same (a .1) (b .1) && sameRule (a .2) (b .2)) e in
-    let q = both (same (a .1) (b .1)) (sameRule (a .2) (b .2)) (p .1) in
+    let p = and-true (eqb (a .0) (b .0)) (same (a .1) (b .1) && sameRule (a .2) (b .2)) e in
+    let q = and-true (same (a .1) (b .1)) (sameRule (a .2) (b .2)) (p .1) in
     cong (eqb-true (a .0) (b .0) (p .0)) (same-is (a .1) (b .1) (q .0)) (same-rule (a .2) (b .2) (q .1))
   where
     cong : a .0 ≡ b .0 → a .1 ≡ b .1 → a .2 ≡ b .2 → a ≡ b

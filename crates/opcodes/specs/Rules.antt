@@ -1,5 +1,4 @@
 -- What an opcode's rule says of an operand.
-use Prim.Native.Nat.{ℕ}
 use mathlib.Core.Bool.{Bool, true, false, _&&_}
 use lib.IntN.{ℤ, pos}
 use lib.Signed.{leZ}

@@ -1,4 +1,4 @@
-// A name for each opcode, for the matches that carry it out.
+// A name for each opcode, for the matches that carry it out: their proofs hold each to its instruction.
 
 pub const HALT: u32 = 0;
 

@@ -8,7 +8,7 @@ ghost use Rattle.opcodes.specs.Table.{AreRules, IsPage, entryOf};
 // Which operands an opcode takes.
 pub enum Rule {
     FromTo(i32, i32),
-    // An instruction of the card, which has n.
+    // An instruction of the card, which has n of them.
     ZeroToNMinus1,
     // 0 alone: it has no operand.
     Zero,

@@ -1,5 +1,4 @@
 -- `dispatch::execute` meets its contract. Each arm is the instruction of its opcode. Assumes nothing.
-use native.Mathlib.Omega.{arith}
 use mir.Facts.{toZ-ofZ}
 use Rattle.cells.proofs.Tried.{fit, settles}
 use Rattle.local.proofs.Operands.{cells-few, cells-natural}

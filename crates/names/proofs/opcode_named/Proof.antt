@@ -1,7 +1,6 @@
 -- `names::opcode_named` meets its contract. The loop's invariant: from line k on the search finds what the whole search
 -- finds. Assumes nothing.
 use Prim.Native.Nat.{ℕ, _-_, _≤_, _<_}
-use mathlib.Core.Bool.{Bool}
 use mathlib.Core.List.{List}
 use mathlib.Core.Path.{_≡_, refl, sym, _∙_, ap}
 use native.Mathlib.Omega.{arith}
