@@ -1,15 +1,15 @@
 -- What is listed is read: the text of a card says its cells and its instructions. Assumes nothing.
 use Prim.Native.Nat.{ℕ, suc, _+_, _-_, _%_, _^_, _≤_, _<_}
-use mathlib.Core.Bool.{Bool, true, false, cond}
+use mathlib.Core.Bool.{true, false}
 use mathlib.Core.List.{List, [], _∷_, _++_}
 use mathlib.Core.Option.{none, some}
 use mathlib.Core.Path.{_≡_, refl, _∙_, ap}
 use native.Mathlib.Omega.{arith}
-use borrow.Author.Tests.{eq-eqb, le-leb, le-ltb, leb-true, lt-ltb, ltb-false}
+use borrow.Author.Tests.{eq-eqb, le-leb, le-ltb, leb-true, lt-ltb}
 use lib.Dec.{leb, ltb}
 use lib.IntN.{ℤ, pos, negsuc}
 use lib.ListN.{length}
-use Rattle.opcodes.specs.Page.{lastOpcode, nameOf, page, ruleOf}
+use Rattle.opcodes.specs.Page.{nameOf, page, ruleOf}
 use Rattle.opcodes.proofs.Rows.{in-page}
 use Rattle.opcodes.specs.Rules.{allows, hasOperand}
 use Rattle.instruction.specs.Rules.{checkOf}
@@ -18,6 +18,7 @@ use Rattle.opcodes.specs.declared.table.Rule.{Rule}
 use Rattle.opcodes.specs.declared.table.Rule.the-variants.{Zero, FromTo, ZeroToNMinus1}
 use Rattle.instruction.specs.Rules.{Verdict}
 use Rattle.instruction.specs.Rules as verdict
+use Rattle.instruction.proofs.Checks.{passed}
 use Rattle.card.specs.Code.{firstBad, orElse, scanOf}
 use Rattle.card.specs.declared.scan.Scan.the-variants.{Fine}
 use Rattle.text.specs.Decimal.{decimal}
@@ -52,13 +53,7 @@ record Right (last : ℤ) (w : ℕ) : Type 0 where
   pub rule : allows (ruleOf (opcodeOf w)) last (operandOf w) ≡ true
 
 right-of : (last : ℤ) (w : ℕ) → checkOf last w ≡ verdict.Fine → Right last w
-right-of last w e = by (ltb lastOpcode (opcodeOf w)) refl (allows (ruleOf (opcodeOf w)) last (operandOf w)) refl e
-  where
-    by : (t : Bool) → ltb lastOpcode (opcodeOf w) ≡ t → (u : Bool) → allows (ruleOf (opcodeOf w)) last (operandOf w) ≡ u →
-        cond t verdict.BadOpcode (cond u verdict.Fine verdict.BadOperand) ≡ verdict.Fine → Right last w
-    by true t u p q = impossible cc
-    by false t true p q = record { opcode = in-page _ (ltb-false lastOpcode (opcodeOf w) t); rule = p }
-    by false t false p q = impossible cc
+right-of last w e = let p = passed last w e in record { opcode = in-page _ (p .0); rule = p .1 }
 
 -- a list whose first and other instructions are right
 record All (last : ℤ) (index w : ℕ) (ws : List ℕ) : Type 0 where

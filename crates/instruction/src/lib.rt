@@ -4,7 +4,7 @@ ghost use mathlib.Core.Path.{_≡_};
 ghost use Prim.Native.Nat.{_+_, _%_, _<_, _≤_};
 ghost use lib.ListN.{length};
 ghost use lib.Seq.{sets};
-ghost use Rattle.instruction.specs.Bytes.{byteOf, halfAt, halfBytes, wordAt, wordBytes};
+ghost use Rattle.instruction.specs.Bytes.{halfAt, halfBytes, wordAt, wordBytes};
 ghost use Rattle.opcodes.specs.Rules.{allows, isBetween};
 ghost use Rattle.instruction.specs.Word.{opcodeOf, operandOf, signed24};
 use opcodes::Rule;

@@ -12,6 +12,7 @@ use borrow.Author.Tests.{eq-eqb}
 use Rattle.card.proofs.Header.{accepts, code-part}
 use Rattle.card.proofs.Words.{count as count-words}
 use Rattle.card.specs.Code.{firstBad, wordsOf}
+use Rattle.instruction.proofs.Checks.{passed}
 use Rattle.card.specs.Image.{countOf, lastOf, readOf}
 use Rattle.card.specs.declared.scan.Scan.the-variants as scan
 use Rattle.card.specs.Result as result
@@ -33,7 +34,7 @@ use Rattle.machine.proofs.Releases.{Lawful}
 use Rattle.machine.proofs.Slices.{length-slice, tables-slice}
 use Rattle.machine.proofs.Steady.{Right}
 use Rattle.machine.proofs.Steps.{After, run-right, step-right}
-use Rattle.machine.proofs.Targets.{Card, all-fine, opcode-known, operand-allowed, target-in}
+use Rattle.machine.proofs.Targets.{Card, all-fine, target-in}
 
 -- ---- the card
 
@@ -48,8 +49,8 @@ card-of image cells e =
     (record {
       some = rw n (a .sized .count .some);
       most = rw n (a .sized .count .most);
-      opcodes = λ i h. opcode-known (length words) (getD words i 0) (all-fine (length words) 0 words fine i h);
-      permitted = λ i h. operand-allowed (length words) (getD words i 0) (all-fine (length words) 0 words fine i h);
+      opcodes = λ i h. passed (lastOf (length words)) (getD words i 0) (all-fine (length words) 0 words fine i h) .0;
+      permitted = λ i h. passed (lastOf (length words)) (getD words i 0) (all-fine (length words) 0 words fine i h) .1;
       targets = λ i h. target-in (length words) (getD words i 0) (rw n (a .sized .count .some)) (all-fine (length words) 0 words fine i h);
     })
 

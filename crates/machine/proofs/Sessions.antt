@@ -2,17 +2,15 @@
 use Prim.Native.Nat.{ℕ}
 use mathlib.Core.Bool.{Bool, true, false, _&&_}
 use mathlib.Core.List.{List, [], _∷_}
-use mathlib.Core.Path.{_≡_, ap, refl}
-use native.Mathlib.Omega.{arith}
-use lib.Dec.{eqb, leb}
-use lib.IntN.{ℤ, pos, negsuc}
-use borrow.Author.Tests.{eqb-true, leb-true}
-use Rattle.arithmetic.specs.Arithmetic.{eqZ}
+use mathlib.Core.Path.{_≡_, refl}
+use lib.Dec.{eqb}
+use borrow.Author.Tests.{eqb-true}
 use Rattle.opcodes.specs.Page.{page}
 use Rattle.card.specs.Code.{firstBad, wordsOf}
 use Rattle.card.specs.Image.{codeOf, readCode, readOf}
 use Rattle.writer.specs.Writing.{wordsBytes}
 use Rattle.opcodes.specs.Ascii.{bytes}
+use Rattle.opcodes.proofs.Same.{same-z, sameZ}
 use Rattle.text.specs.Decimal.{decimal, places}
 use Rattle.text.specs.Lines.{line}
 use Rattle.machine.specs.Book.{eventOf}
@@ -47,28 +45,14 @@ agree-is test is (x ∷ xs) [] e = never e
 agree-is test is (x ∷ xs) (y ∷ ys) e =
     rw (is x y (and-first (test x y) (agree test xs ys) e), agree-is test is xs ys (and-second (test x y) (agree test xs ys) e))
 
-equal-numbers : (a b : ℤ) → eqZ a b ≡ true → a ≡ b
-equal-numbers (pos m) (pos n) e =
-    let low = leb-true m n (and-first (leb m n) (leb n m) e) in
-    let high = leb-true n m (and-second (leb m n) (leb n m) e) in
-    let same : m ≡ n = omega arith in
-    ap pos same
-equal-numbers (pos m) (negsuc n) e = never e
-equal-numbers (negsuc m) (pos n) e = never e
-equal-numbers (negsuc m) (negsuc n) e =
-    let low = leb-true n m (and-first (leb n m) (leb m n) e) in
-    let high = leb-true m n (and-second (leb n m) (leb m n) e) in
-    let same : m ≡ n = omega arith in
-    ap negsuc same
-
 sameResult : Result → Result → Bool
-sameResult a b = eqb (a .thread) (b .thread) && eqZ (a .value) (b .value)
+sameResult a b = eqb (a .thread) (b .thread) && sameZ (a .value) (b .value)
 
 same-result : (a b : Result) → sameResult a b ≡ true → a ≡ b
 unfolding sameResult
 same-result a b e =
-    let thread = eqb-true (a .thread) (b .thread) (and-first (eqb (a .thread) (b .thread)) (eqZ (a .value) (b .value)) e) in
-    let value = equal-numbers (a .value) (b .value) (and-second (eqb (a .thread) (b .thread)) (eqZ (a .value) (b .value)) e) in
+    let thread = eqb-true (a .thread) (b .thread) (and-first (eqb (a .thread) (b .thread)) (sameZ (a .value) (b .value)) e) in
+    let value = same-z (a .value) (b .value) (and-second (eqb (a .thread) (b .thread)) (sameZ (a .value) (b .value)) e) in
     λ i. record { thread = thread i; value = value i }
 
 -- ---- the test of a row, and what it tells

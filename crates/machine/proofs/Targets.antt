@@ -1,20 +1,21 @@
 -- Every jump of an accepted card goes to an instruction of the card. Assumes nothing.
 use Prim.Native.Nat.{ℕ, zero, suc, _-_, _<_, _≤_}
 use mathlib.Core.Path.{_≡_, refl, ap}
-use mathlib.Core.Bool.{Bool, true, false, cond, _||_}
+use mathlib.Core.Bool.{Bool, true, _||_}
 use mathlib.Core.List.{List, [], _∷_}
 use mathlib.Core.Logic.{_≢_}
 use native.Mathlib.Omega.{arith}
-use lib.Dec.{eqb, ltb}
+use lib.Dec.{eqb}
 use lib.IntN.{ℤ, pos, negsuc, natAbs}
 use lib.ListN.{length, getD, List·getD-eq-default}
 use lib.Signed.{leZ}
-use borrow.Author.Tests.{ne-eqb, eqb-true, leb-true, le-ltb, ltb-false}
+use borrow.Author.Tests.{ne-eqb, eqb-true, leb-true, le-ltb}
 use Rattle.opcodes.specs.Page.{lastOpcode, page, ruleOf}
 use Rattle.opcodes.specs.Rules.{allows, isBetween}
 use Rattle.instruction.specs.Word.{opcodeOf, operandOf}
 use Rattle.instruction.specs.Rules.{Verdict, checkOf}
 use Rattle.instruction.specs.Rules as verdict
+use Rattle.instruction.proofs.Checks.{passed}
 use Rattle.card.specs.Code.{firstBad, orElse, scanOf}
 use Rattle.card.specs.Image.{lastOf}
 use Rattle.card.specs.declared.scan.Scan.{Scan}
@@ -127,30 +128,8 @@ target-at n op k h e =
     rw (j, jump-21 k) (in-card n k mine))
     (λ j. omega (arith, no-target op k i j)))
 
--- a fine instruction's operand is allowed
-allowed : (over fits : Bool) → cond over verdict.BadOpcode (cond fits verdict.Fine verdict.BadOperand) ≡ verdict.Fine →
-    fits ≡ true
-allowed true fits e = absurd (let z : _≡_ {A = ℕ} 0 1 = cc in omega arith)
-allowed false true e = refl
-allowed false false e = absurd (let z : _≡_ {A = ℕ} 0 1 = cc in omega arith)
-
--- .. and its opcode is one
-known : (over fits : Bool) → cond over verdict.BadOpcode (cond fits verdict.Fine verdict.BadOperand) ≡ verdict.Fine →
-    over ≡ false
-known true fits e = absurd (let z : _≡_ {A = ℕ} 0 1 = cc in omega arith)
-known false fits e = refl
-
-pub opcode-known : (n w : ℕ) → checkOf (lastOf n) w ≡ verdict.Fine → opcodeOf w ≤ lastOpcode
-opcode-known n w e =
-    ltb-false lastOpcode (opcodeOf w)
-    (known (ltb lastOpcode (opcodeOf w)) (allows (ruleOf (opcodeOf w)) (lastOf n) (operandOf w)) e)
-
-pub operand-allowed : (n w : ℕ) → checkOf (lastOf n) w ≡ verdict.Fine →
-    allows (ruleOf (opcodeOf w)) (lastOf n) (operandOf w) ≡ true
-operand-allowed n w e = allowed (ltb lastOpcode (opcodeOf w)) (allows (ruleOf (opcodeOf w)) (lastOf n) (operandOf w)) e
-
 pub target-in : (n w : ℕ) → 1 ≤ n → checkOf (lastOf n) w ≡ verdict.Fine → targetOf (decoded w) < n
-target-in n w h e = target-at n (opcodeOf w) (operandOf w) h (operand-allowed n w e)
+target-in n w h e = target-at n (opcodeOf w) (operandOf w) h (passed (lastOf n) w e .1)
 
 -- a search that found nothing found this word fine, and the rest
 good-word : (v : Verdict) (i : ℕ) (rest : Scan) → orElse (scanOf v i) rest ≡ scan.Fine →

@@ -12,13 +12,13 @@ use Rattle.opcodes.specs.declared.table.Rule.{Rule}
 use Rattle.opcodes.specs.declared.table.Rule.the-variants.{Zero, FromTo, ZeroToNMinus1}
 use Rattle.opcodes.proofs.Each.{and-true, never}
 
-abbrev sameZ : ℤ → ℤ → Bool
+abbrev pub sameZ : ℤ → ℤ → Bool
 sameZ (pos a) (pos b) = eqb a b
 sameZ (negsuc a) (negsuc b) = eqb a b
 sameZ (pos a) (negsuc b) = false
 sameZ (negsuc a) (pos b) = false
 
-same-z : (a b : ℤ) → sameZ a b ≡ true → a ≡ b
+pub same-z : (a b : ℤ) → sameZ a b ≡ true → a ≡ b
 same-z (pos a) (pos b) e = ap pos (eqb-true a b e)
 same-z (negsuc a) (negsuc b) e = ap negsuc (eqb-true a b e)
 same-z (pos a) (negsuc b) e = never e
