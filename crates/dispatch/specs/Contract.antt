@@ -5,8 +5,10 @@ use mathlib.Core.Logic.{_⊎_, _≢_}
 use mathlib.Core.Path.{_≡_}
 use lib.IntN.{ℤ}
 use lib.ListN.{length}
+use Rattle.machine.specs.Tables.{atEnd, tablesOf}
 use Rattle.machine.specs.declared.registers.Registers.{Registers}
 use Rattle.cells.specs.Contract.{Able, Made}
+use Rattle.endings.specs.Contract.{Receivers}
 use Rattle.passing.specs.Contract.{Low}
 use Rattle.tables.specs.Good.{Good}
 
@@ -18,6 +20,8 @@ pub record Working (size : ℕ) (r : Registers) (cells : ℕ) (tables : List ℕ
   pub valued : length values ≡ 2 * size
   -- no more threads wait for a semaphore than there are
   pub low : (k : ℕ) → k < r .semaphores → Low size values k
+  -- those who wait for the running thread's end have a cell, where its result goes
+  pub receivers : Receivers size (atEnd size (r .thread)) (tablesOf size tables)
 
 -- the opcodes of yield, lock and unlock, ..
 abbrev pub Turning : ℕ → Type 0

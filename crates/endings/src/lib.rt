@@ -1,4 +1,5 @@
 // A thread's end, and who waits for it. Inner: the engine calls these functions on a running machine.
+mod delivery;
 mod ends;
 mod returns;
 

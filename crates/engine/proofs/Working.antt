@@ -81,6 +81,11 @@ module _ (code : List ℕ) (n : ℕ) (card : Carded code n) where
         good = record { small = small; long = held .sized; line = tidy .line };
         valued = steady .valued;
         low = λ k made. few-wait size _ _ (held .right) k made;
+        receivers =
+            record {
+              some = λ t h at. tidy .placed t h .has-cell (r .thread) at;
+              most = λ t h at. tidy .placed t h .kept (omega (arith, at)) .cells-fit;
+            };
       }
 
   -- its instruction is one that an accepted card may have

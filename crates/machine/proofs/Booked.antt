@@ -7,7 +7,7 @@ use mathlib.Core.List.{List, [], _∷_, _++_, append-assoc}
 use mathlib.Core.Logic.{_≢_}
 use native.Mathlib.Omega.{arith}
 use lib.Dec.{eqb, ltb}
-use lib.IntN.{pos}
+use lib.IntN.{ℤ, pos}
 use lib.ListN.{length, drop, length-append, length-drop}
 use lib.Seq.{drop-append-le, drop-drop}
 use borrow.Author.Tests.{eq-eqb, ne-eqb, lt-ltb}
@@ -98,11 +98,11 @@ module _ (size : ℕ) (tables : Tables) (book : Book) (b : Booked size tables bo
       }
 
   -- a thread ends
-  pub booked-ended : (t : ℕ) → t < length (tables .places) →
+  pub booked-ended : (t : ℕ) (v : ℤ) → t < length (tables .places) →
       ((m : ℕ) → m < mutexLimit size → placeOf tables t ≢ atMutex m) →
-      Booked size (sent tables t ended) (fed book (entry t ends))
+      Booked size (sent tables t ended) (fed book (entry t (ends v)))
   unfolding fed
-  booked-ended t below from =
+  booked-ended t v below from =
       record {
         alive =
             λ s.

@@ -4,7 +4,7 @@ use mathlib.Core.Path.{_≡_, refl, sym, ap, subst, _∙_}
 use mathlib.Core.List.{List, [], _∷_}
 use mathlib.Core.Logic.{_≢_}
 use native.Mathlib.Omega.{arith}
-use lib.IntN.{pos}
+use lib.IntN.{ℤ, pos}
 use lib.ListN.{length, getD}
 use borrow.Author.Tests.{lt-ltb}
 use Rattle.machine.specs.Book.{Book, fed, locks, permitted, unlocks, creates}
@@ -51,10 +51,10 @@ module _ {size threads mutexes conditions semaphores run : ℕ} {tables : Tables
   pub in-line : (t : ℕ) → 0 < count t (tables .line) → t < size
   in-line t h = less-or-not t size (λ k. k) (λ k. absurd (omega (arith, b .kempt .tidy .line .no-other t k)))
 
-  -- registers are saved of a thread
-  pub saves : (t pc cells fp : ℕ) → t < size → Frame pc cells fp →
+  -- registers are saved of a thread that is in no queue
+  pub saves : (t pc cells fp : ℕ) → t < size → placeOf tables t < ready → Frame pc cells fp →
       Both size threads mutexes conditions semaphores run (saved tables t pc cells fp) book
-  saves t pc cells fp below f =
+  saves t pc cells fp below away f =
       let next : Tables = saved tables t pc cells fp in
       let s = b .kempt .sizes in
       let y = b .kempt .tidy in
@@ -89,6 +89,11 @@ module _ {size threads mutexes conditions semaphores run : ℕ} {tables : Tables
                               (λ e.
                               let same = saved-other tables t pc cells fp u e in
                               rw (same .0, same .1, same .2) (old .kept (rw (saved-places tables t pc cells fp) at waits)));
+                          has-cell =
+                              λ w e.
+                              same-or-not u t
+                              (λ is. absurd (omega (arith, sym at ∙ e, ap (placeOf tables) is)))
+                              (λ far. rw (saved-other tables t pc cells fp u far .1) (old .has-cell w (sym at ∙ e)));
                         };
                     runner = rw (saved-places tables t pc cells fp) (y .runner);
                     holders = rw (saved-owners tables t pc cells fp) (y .holders);
@@ -114,13 +119,14 @@ module _ {size threads mutexes conditions semaphores run : ℕ} {tables : Tables
   -- the running thread leaves for ready, a condition's queue, or another's end
   pub leaves : (p : ℕ) → run ≢ size → ready ≤ p → Aside size p →
       Awaited size threads mutexes conditions semaphores tables p →
-      SavedFrame tables run → Both size threads mutexes conditions semaphores size (sent tables run p) book
-  leaves p some high aside w f =
+      SavedFrame tables run → ((u : ℕ) → p ≡ atEnd size u → 1 ≤ getD (tables .depths) run 0) →
+      Both size threads mutexes conditions semaphores size (sent tables run p) book
+  leaves p some high aside w f cell =
       let y = b .kempt .tidy in
       let r = y .runner some in
       let below : run < size = omega (arith, r .0, y .counts .threads-fit) in
       record {
-        kempt = goes (b .kempt) run p size (r .0) (turn-left (λ e. omega (arith, e))) (may-wait high w f);
+        kempt = goes (b .kempt) run p size (r .0) (turn-left (λ e. omega (arith, e))) (may-wait high w f cell);
         booked =
             booked-sent size tables book (b .booked) run p (inside run below) (aside .no-mutex) (λ m h e. omega (arith, r .1, e))
             (rw (r .1) (lt-ltb ended p (omega arith)));
@@ -136,7 +142,7 @@ module _ {size threads mutexes conditions semaphores run : ℕ} {tables : Tables
       let below : run < size = omega (arith, r .0, y .counts .threads-fit) in
       let limit : m < mutexLimit size = omega (arith, y .counts .mutexes-fit) in
       record {
-        kempt = goes (b .kempt) run (atMutex m) size (r .0) (turn-left (λ e. omega (arith, e))) (may-wait (omega arith) (awaited-mutex m limit made held) f);
+        kempt = goes (b .kempt) run (atMutex m) size (r .0) (turn-left (λ e. omega (arith, e))) (may-wait (omega arith) (awaited-mutex m limit made held) f (λ u e. absurd (omega (arith, e, limit))));
         booked =
             booked-waits size tables book (b .booked) m run limit (inside run below) (once run below) (λ k h e. omega (arith, r .1, e))
             (rw (r .1));
@@ -253,17 +259,17 @@ module _ {size threads mutexes conditions semaphores run : ℕ} {tables : Tables
       }
 
   -- the running thread ends, where nobody waits for it and it owns no mutex
-  pub stops : run ≢ size → queue tables (atEnd size run) ≡ [] →
+  pub stops : (v : ℤ) → run ≢ size → queue tables (atEnd size run) ≡ [] →
       ((m : ℕ) → m < mutexLimit size → ownerOf tables m ≢ run) →
-      Both size threads mutexes conditions semaphores size (sent tables run ended) (fed book (entry run event.ends))
-  stops some e free =
+      Both size threads mutexes conditions semaphores size (sent tables run ended) (fed book (entry run (event.ends v)))
+  stops v some e free =
       let y = b .kempt .tidy in
       let r = y .runner some in
       record {
         kempt = goes (b .kempt) run ended size (r .0) (turn-left (λ k. omega (arith, k))) (may-end (nobody-at (atEnd size run) e) free);
-        booked = booked-ended size tables book (b .booked) run (inside run (omega (arith, r .0, y .counts .threads-fit))) (λ m h k. omega (arith, r .1, k));
+        booked = booked-ended size tables book (b .booked) run v (inside run (omega (arith, r .0, y .counts .threads-fit))) (λ m h k. omega (arith, r .1, k));
         passing =
-            rw (fed-ends book run)
+            rw (fed-ends book run v)
             (passing-sent (b .passing) run ended (inside run (omega (arith, r .0, y .counts .threads-fit))) (λ k h i. omega (arith, i)) (λ k h i. omega (arith, r .1, i)));
       }
 
@@ -348,7 +354,7 @@ module _ {size threads mutexes conditions semaphores run : ℕ} {tables : Tables
         let below : run < size = omega (arith, r .0, y .counts .threads-fit) in
         rw (fed-downs book run k)
         (record {
-          kempt = goes (b .kempt) run (atSemaphore size k) size (r .0) (turn-left (λ e. omega (arith, e))) (may-wait (omega arith) (awaited-semaphore k limited made) f);
+          kempt = goes (b .kempt) run (atSemaphore size k) size (r .0) (turn-left (λ e. omega (arith, e))) (may-wait (omega arith) (awaited-semaphore k limited made) f (λ u e. absurd (omega (arith, e, limited))));
           booked =
               booked-permits size _ book
               (booked-sent size tables book (b .booked) run (atSemaphore size k) (inside run below) (λ m h e. omega (arith, e)) (λ m h e. omega (arith, r .1, e))

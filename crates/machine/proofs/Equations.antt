@@ -8,7 +8,7 @@ use lib.ListN.{set, replicate}
 use lib.Seq.{sets}
 use lib.Signed.{leZ, ltZ, quotZ, remZ}
 use Rattle.arithmetic.specs.Arithmetic.{eqZ}
-use Rattle.machine.specs.Execution.{Outcome, aCondition, aMutex, aSemaphore, aThread, binary, compared, conditionMade, creating, division, done, ending, exec, fault, finalizing, fits, frameCell, fresh, joining, locking, lowering, mutexMade, needs, opening, popped, pushed, raising, replaced, returning, rooms, truth, unlocking, waiting, within}
+use Rattle.machine.specs.Execution.{Outcome, aCondition, aMutex, aSemaphore, aThread, binary, compared, conditionMade, creating, division, done, ending, exec, fault, fits, frameCell, fresh, joining, locking, lowering, mutexMade, needs, opening, popped, pushed, raising, replaced, returning, rooms, truth, unlocking, waiting, within}
 use Rattle.machine.specs.Instructions.{Instruction}
 use Rattle.machine.specs.Instructions as instr
 use Rattle.machine.specs.Registers.{halted, stopped, withCells, withFp, withPc, withState}
@@ -166,8 +166,7 @@ module _ (size n : ℕ) (s : State) where
   unfolding exec
   join-is = refl
 
-  pub finalize-is : exec size n s instr.finalize
-      ≡ needs 1 (s .regs .cells) (aThread size n s (top size s) (finalizing size n s))
+  pub finalize-is : exec size n s instr.finalize ≡ needs 1 (s .regs .cells) (done s)
   unfolding exec
   finalize-is = refl
 

@@ -21,7 +21,7 @@ use Rattle.machine.specs.Plain.{Frame}
 use Rattle.machine.specs.Registers.{withPc, withCells, withFp, withFree, withMade, withSemaphores}
 use Rattle.machine.specs.Size.{conditionLimit, mutexLimit, semaphoreLimit, shared, stackAt, storeSize}
 use Rattle.machine.specs.State.{State, below, cell, ends, minusOne, newCells, newFp, newStack, semaphoreCount, top, withRegs, withStore}
-use Rattle.machine.specs.Tables.{Tables, atCondition, atEnd, atMutex, ended, ownerOf, ownsAny, placeOf, ready, saved, sent}
+use Rattle.machine.specs.Tables.{Tables, atCondition, atEnd, ended, ownerOf, ownsAny, placeOf, ready, saved, sent}
 use Rattle.machine.proofs.Booked.{entry}
 use Rattle.machine.proofs.Changes.{Both, aside-condition, aside-end, aside-ready, gives, lowers, makes, opens-next, raises, raises-first, saves, takes, wakes-all, wakes-first}
 use Rattle.machine.proofs.Every.{and-first, and-second}
@@ -252,7 +252,7 @@ module _ (size n : ℕ) (s : State) (book : Book) (y : Runs size s book) (short 
 
   -- 31, or the thread's end
   ends-ending : (P : State → Type 0) (v : ℤ) →
-      (Landed size (ends size s v) (fed book (entry (s .regs .thread) event.ends)) → P (ends size s v)) →
+      (Landed size (ends size s v) (fed book (entry (s .regs .thread) (event.ends v))) → P (ends size s v)) →
       Ends P (ending size s v)
   ends-ending P v f = ends-cond P (ownsAny size (s .tables) (s .regs .thread)) _ _ (λ e. refl) (λ e. f (ends-right size s book y e v))
 
@@ -291,7 +291,7 @@ module _ (size n : ℕ) (s : State) (book : Book) (y : Runs size s book) (short 
   exec-yield : Done instr.yield
   unfolding exec eventOf fed
   exec-yield =
-      blocked-right size s book y ready (omega arith) aside-ready (awaited-low ready (omega arith))
+      blocked-right size s book y ready (omega arith) aside-ready (awaited-low ready (omega arith)) (λ u e. absurd (omega (arith, e)))
 
   exec-join : Done instr.join
   unfolding exec eventOf fed
@@ -301,17 +301,13 @@ module _ (size n : ℕ) (s : State) (book : Book) (y : Runs size s book) (short 
       ends-within _ _ _ _ _ refl
       (λ t e made.
       ends-cond _ (eqb (placeOf (s .tables) t) ended) _ _
-      (λ k. active-landed size s book (y .steady) (y .marked) (y .some))
+      (λ k. poke _ _)
       (λ k.
-      blocked-right size s book y (atEnd size t) (omega arith) (aside-end t) (awaited-end t made (eqb-false _ _ k)))))
+      blocked-right size s book y (atEnd size t) (omega arith) (aside-end t) (awaited-end t made (eqb-false _ _ k)) (λ u i. h))))
 
   exec-finalize : Done instr.finalize
   unfolding exec eventOf fed
-  exec-finalize =
-      ends-needs _ 1 _ _
-      (λ h.
-      ends-within _ _ _ _ _ refl
-      (λ t e made. ends-cond _ (eqb (placeOf (s .tables) t) ended) _ _ (λ k. poke _ _) (λ k. refl)))
+  exec-finalize = ends-needs _ 1 _ _ (λ h. active-landed size s book (y .steady) (y .marked) (y .some))
 
   -- other tables, a book that was fed, and other counts, with the thread still running
   changed : (store : List ℤ) (tables : Tables) (cells threads mutexes conditions : ℕ) (book′ : Book) →
@@ -567,7 +563,8 @@ module _ (size n : ℕ) (s : State) (book : Book) (y : Runs size s book) (short 
   made-both pc below less =
       let z = y .steady .both .kempt .sizes in
       let f : Frame pc newCells newFp = record { pc-fits = omega arith; cells-fit = lit≤ tt; fp-least = lit≤ tt; fp-most = lit≤ tt } in
-      makes (saves (y .steady .both) (s .regs .threads) pc newCells newFp less f) (s .regs .thread) less
+      let unmade-yet = y .steady .both .kempt .tidy .placed (s .regs .threads) less .not-made (omega arith) in
+      makes (saves (y .steady .both) (s .regs .threads) pc newCells newFp less (omega (arith, unmade-yet)) f) (s .regs .thread) less
       (rw (
         saved-pc (s .tables) (s .regs .threads) pc newCells newFp (rw (z .pcs) less),
         saved-depth (s .tables) (s .regs .threads) pc newCells newFp (rw (z .depths) less),

@@ -29,3 +29,8 @@ pub mod Order
 pub mod Demand
 pub mod Permitted
 pub mod Semaphores
+pub mod Slates
+pub mod Apart
+pub mod Effects
+pub mod Told
+pub mod Delivery

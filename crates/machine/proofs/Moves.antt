@@ -147,23 +147,40 @@ pub record May (size threads mutexes conditions semaphores : ℕ) (tables : Tabl
   pub to-ended : p ≡ ended → ((s : ℕ) → s < size → placeOf tables s ≢ atEnd size t)
       × ((m : ℕ) → m < mutexLimit size → ownerOf tables m ≢ t)
   pub has-frame : ready ≤ p → SavedFrame tables t
+  -- it waits for another's end only with a cell on its stack
+  pub has-cell : (u : ℕ) → p ≡ atEnd size u → 1 ≤ getD (tables .depths) t 0
 
 module _ {size threads mutexes conditions semaphores : ℕ} {tables : Tables} {t : ℕ} where
   -- to the ready queue or another, its registers saved
   pub may-wait : {p : ℕ} → ready ≤ p → Awaited size threads mutexes conditions semaphores tables p →
-      SavedFrame tables t → May size threads mutexes conditions semaphores tables t p
-  may-wait high w f = record { somewhere = omega arith; awaited = w; to-ended = λ e. absurd (omega (arith, e)); has-frame = λ h. f }
+      SavedFrame tables t → ((u : ℕ) → p ≡ atEnd size u → 1 ≤ getD (tables .depths) t 0) →
+      May size threads mutexes conditions semaphores tables t p
+  may-wait high w f cell = record { somewhere = omega arith; awaited = w; to-ended = λ e. absurd (omega (arith, e)); has-frame = λ h. f; has-cell = cell }
 
   pub may-ready : SavedFrame tables t → May size threads mutexes conditions semaphores tables t ready
-  may-ready f = may-wait (omega arith) (awaited-low ready (omega arith)) f
+  may-ready f = may-wait (omega arith) (awaited-low ready (omega arith)) f (λ u e. absurd (omega (arith, e)))
 
   pub may-run : May size threads mutexes conditions semaphores tables t active
-  may-run = record { somewhere = omega arith; awaited = awaited-low active (omega arith); to-ended = λ e. absurd (omega (arith, e)); has-frame = λ h. absurd (omega (arith, h)) }
+  may-run =
+      record {
+        somewhere = omega arith;
+        awaited = awaited-low active (omega arith);
+        to-ended = λ e. absurd (omega (arith, e));
+        has-frame = λ h. absurd (omega (arith, h));
+        has-cell = λ u e. absurd (omega (arith, e));
+      }
 
   pub may-end : ((s : ℕ) → s < size → placeOf tables s ≢ atEnd size t) →
       ((m : ℕ) → m < mutexLimit size → ownerOf tables m ≢ t) →
       May size threads mutexes conditions semaphores tables t ended
-  may-end unawaited free = record { somewhere = omega arith; awaited = awaited-low ended (omega arith); to-ended = λ e. (unawaited, free); has-frame = λ h. absurd (omega (arith, h)) }
+  may-end unawaited free =
+      record {
+        somewhere = omega arith;
+        awaited = awaited-low ended (omega arith);
+        to-ended = λ e. (unawaited, free);
+        has-frame = λ h. absurd (omega (arith, h));
+        has-cell = λ u e. absurd (omega (arith, e));
+      }
 
 -- so many threads are made afterwards: t, and no other that wasn't
 pub record Makes (size threads t threads′ : ℕ) : Type 0 where
@@ -206,6 +223,7 @@ module _ {size threads mutexes conditions semaphores run : ℕ} {tables : Tables
           only-run = λ e. turn .to-run (sym here ∙ e);
           awaited = rw here (waits (may .awaited) (λ stop e. omega (arith, stop, e)));
           kept = λ h. frames t (may .has-frame (rw here at h));
+          has-cell = λ u e. rw (sent-saved tables t p .1) (may .has-cell u (sym here ∙ e));
         }
 
     other : (s : ℕ) → s < size → s ≢ t → Placed size threads′ mutexes conditions semaphores run′ (sent tables t p) s
@@ -218,6 +236,7 @@ module _ {size threads mutexes conditions semaphores run : ℕ} {tables : Tables
           only-run = λ e. turn .others s below away (old .only-run (sym stays ∙ e));
           awaited = rw stays (waits (old .awaited) (λ stop. may .to-ended stop .0 s below));
           kept = λ h. frames s (old .kept (rw stays at h));
+          has-cell = λ u e. rw (sent-saved tables t p .1) (old .has-cell u (sym stays ∙ e));
         }
 
     pub moved : Kempt size threads′ mutexes conditions semaphores run′ (sent tables t p)
@@ -296,6 +315,7 @@ owner-set {size} {threads} {mutexes} {conditions} {semaphores} {run} {tables} k 
                   only-run = rw same (old .only-run);
                   awaited = rw at (awaited-owned (old .awaited) m o (rw (k .sizes .owners) limit) (λ none. unwanted none t h));
                   kept = rw (same, saves .0, saves .1, saves .2) (old .kept);
+                  has-cell = rw (same, saves .1) (old .has-cell);
                 };
             runner = rw same (y .runner);
             holders =
@@ -338,6 +358,7 @@ counts-grow {threads = threads} k mutexes′ conditions′ semaphores′ more mo
                   only-run = old .only-run;
                   awaited = awaited-more (old .awaited) threads mutexes′ conditions′ semaphores′ (omega arith) more more-c more-s;
                   kept = old .kept;
+                  has-cell = old .has-cell;
                 };
             runner = y .runner;
             holders = λ m hm e. let was = y .holders m hm e in (omega (arith, was .0), was .1);

@@ -2,16 +2,16 @@
 -- each change. Assumes nothing.
 use Prim.Native.Nat.{ℕ, zero, suc, _+_, _-_, _<_, _≤_}
 use mathlib.Core.Path.{_≡_, refl, sym, ap, _∙_}
-use mathlib.Core.Bool.{true, cond}
+use mathlib.Core.Bool.{cond}
 use mathlib.Core.List.{List, [], _∷_, _++_}
 use mathlib.Core.Logic.{_≢_}
 use native.Mathlib.Omega.{arith}
 use lib.Dec.{leb, ltb}
 use lib.IntN.{ℤ, pos, negsuc, negℤ, subℕ, _+ℤ_, _-ℤ_, +ℤ-one, -ℤ-one, +ℤ-predℤ, negℤ-sucℤ, sucℤ-+ℤ}
-use lib.ListN.{length, drop, set, length-append, length-drop, length-set, drop-of-length-le}
+use lib.ListN.{length, drop, set, length-append, length-drop, drop-of-length-le}
 use lib.Seq.{drop-append-le, drop-drop, drop-nil, getD-set-other, getD-set-same}
 use lib.Signed.{leZ, ltZ}
-use borrow.Author.Tests.{eq-eqb, ne-eqb, le-leb, le-ltb, lt-leb, lt-ltb, ltb-false, ltb-true}
+use borrow.Author.Tests.{eq-eqb, ne-eqb, le-leb, le-ltb, lt-leb, lt-ltb}
 use Rattle.machine.specs.Book.{Book, Permits, creates, downed, downs, ends, fed, locks, opened, opens, unlocks, upped, ups, withPermits}
 use Rattle.machine.specs.Lists.{count}
 use Rattle.machine.specs.Size.{semaphoreLimit, valuesSize}
@@ -19,7 +19,7 @@ use Rattle.machine.specs.State.{semaphoreCount}
 use Rattle.machine.specs.Tables.{Tables, atSemaphore, placeOf, queue, ready, sent}
 use Rattle.machine.specs.WellFormed.{shortfall}
 use Rattle.machine.proofs.Booked.{entry}
-use Rattle.machine.proofs.Lists.{cases, less-or-not, same-or-not}
+use Rattle.machine.proofs.Lists.{less-or-not, same-or-not}
 use Rattle.machine.proofs.Queues.{queue-joined, queue-kept, queue-left}
 
 -- ---- the difference of two numbers
@@ -71,9 +71,9 @@ module _ (book : Book) (t : ℕ) where
   unfolding fed
   fed-creates v = refl
 
-  pub fed-ends : fed book (entry t ends) .permits ≡ book .permits
+  pub fed-ends : (v : ℤ) → fed book (entry t (ends v)) .permits ≡ book .permits
   unfolding fed
-  fed-ends = refl
+  fed-ends v = refl
 
   pub fed-opens : (n k : ℕ) → fed book (entry t (opens n (pos k))) ≡ withPermits book (opened (book .permits) n (pos k))
   unfolding fed

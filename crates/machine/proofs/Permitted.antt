@@ -55,7 +55,8 @@ grants k now thread (event.downs j) =
 grants k now thread (event.locks m) = neither (λ q. absurd (let z : _≡_ {A = ℕ} 0 1 = cc in omega arith)) refl refl
 grants k now thread (event.unlocks m) = neither (λ q. absurd (let z : _≡_ {A = ℕ} 0 1 = cc in omega arith)) refl refl
 grants k now thread (event.creates v) = neither (λ q. absurd (let z : _≡_ {A = ℕ} 0 1 = cc in omega arith)) refl refl
-grants k now thread event.ends = neither (λ q. absurd (let z : _≡_ {A = ℕ} 0 1 = cc in omega arith)) refl refl
+grants k now thread (event.joins u) = neither (λ q. absurd (let z : _≡_ {A = ℕ} 0 1 = cc in omega arith)) refl refl
+grants k now thread (event.ends v) = neither (λ q. absurd (let z : _≡_ {A = ℕ} 0 1 = cc in omega arith)) refl refl
 grants k now thread event.other = neither (λ q. absurd (let z : _≡_ {A = ℕ} 0 1 = cc in omega arith)) refl refl
 
 -- what is asked of the book at each point: no number was made twice, and one on which down was begun was made

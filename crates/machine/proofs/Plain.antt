@@ -13,7 +13,7 @@ use Rattle.machine.specs.Plain.{Counts, Fault, Formed, Frame, Line, Mode
 use Rattle.machine.specs.Registers.{faulted, halted, running, stuck}
 use Rattle.machine.specs.Size.{mutexLimit, shared}
 use Rattle.machine.specs.Tables.{Tables, active, anyLive, ended, isAt, lives, ownerOf, placeOf, ready, unmade}
-use Rattle.machine.specs.WellFormed.{allBelow, anyReady, countsFit, faultFits, formed, frameFits, inRange, levelFits, lineFits, ownerFits, registersFit, savedFits, stateFits, threadFits, waitFits}
+use Rattle.machine.specs.WellFormed.{allBelow, anyReady, countsFit, faultFits, formed, frameFits, inRange, joinerFits, levelFits, lineFits, ownerFits, registersFit, savedFits, stateFits, threadFits, waitFits}
 use Rattle.machine.specs.declared.registers.Registers.{Registers}
 use Rattle.machine.proofs.Every.{and-first, and-second, and-true, below-none, every-true, false-some, never, none-below, or-true, some-false, some-true, tests, true-and, true-cond, true-every, true-not, true-or, true-some}
 use Rattle.machine.proofs.Lists.{cases}
@@ -58,7 +58,9 @@ module _ (size : ℕ) (r : Registers) (tables : Tables) (t : ℕ) where
 
   -- the test's last case: registers saved, and ready or waiting for what is made
   abbrev queued : Bool
-  queued = savedFits tables t && (isAt tables ready t || (leb 4 place && waitFits size r tables place))
+  queued =
+      savedFits tables t
+      && (isAt tables ready t || (leb 4 place && (waitFits size r tables place && joinerFits size tables t)))
 
   -- the test's cases
   standing : {X : Type 0} → threadFits size r tables t ≡ true → (r .threads ≤ t → place ≡ unmade → X) →
@@ -101,13 +103,17 @@ module _ (size : ℕ) (r : Registers) (tables : Tables) (t : ℕ) where
                   (ltb-true _ _ (w .0), eqb-false _ _ (not-true _ (w .1)));
             };
         kept = λ h. plain-frame _ _ _ (and-first (savedFits tables t) _ (queues h));
+        has-cell = λ u q. ltb-true 0 _ (or-true (ltb place (4 + 5 * size)) _ (and-second (waitFits size r tables place) _ (waits (omega arith))) (le-ltb place (4 + 5 * size) (omega arith)));
       }
     where
       queues : ready ≤ place → queued ≡ true
       queues h = standing e (λ a b. absurd (omega arith)) (λ a b c. absurd (omega arith)) (λ a b. absurd (omega arith)) (λ a b c. c)
 
+      waits : 4 ≤ place → (waitFits size r tables place && joinerFits size tables t) ≡ true
+      waits h = and-second (leb 4 place) _ (or-true (isAt tables ready t) _ (and-second (savedFits tables t) _ (queues (omega arith))) (ne-eqb place 3 (omega arith)))
+
       waiting : 4 ≤ place → waitFits size r tables place ≡ true
-      waiting h = and-second (leb 4 place) _ (or-true (isAt tables ready t) _ (and-second (savedFits tables t) _ (queues (omega arith))) (ne-eqb place 3 (omega arith)))
+      waiting h = and-first (waitFits size r tables place) _ (waits h)
 
   -- what a thread waits for is made
   test-wait : Placed size (r .threads) (r .mutexes) (r .conditions) (r .semaphores) (r .thread) tables t → 4 ≤ place →
@@ -122,6 +128,13 @@ module _ (size : ℕ) (r : Registers) (tables : Tables) (t : ℕ) where
       (λ c. lt-ltb _ _ (p .awaited .for-semaphore (place - (4 + 4 * size)) (omega tests) (omega tests)))
       (λ c. let w = p .awaited .for-end (place - (4 + 5 * size)) (omega tests) in
       true-and _ _ (lt-ltb _ _ (w .0)) (true-not _ (ne-eqb _ _ (w .1))))))
+
+  -- a thread that waits for another's end has a cell
+  test-joiner : Placed size (r .threads) (r .mutexes) (r .conditions) (r .semaphores) (r .thread) tables t →
+      joinerFits size tables t ≡ true
+  test-joiner p =
+      true-or (ltb place (4 + 5 * size)) _
+      (λ a. lt-ltb 0 _ (p .has-cell (place - (4 + 5 * size)) (omega tests)))
 
   -- and a thread whose place reads plainly passes the test
   test-place : Tidy size (r .threads) (r .mutexes) (r .conditions) (r .semaphores) (r .thread) tables → t < size →
@@ -138,7 +151,7 @@ module _ (size : ℕ) (r : Registers) (tables : Tables) (t : ℕ) where
       true-and (savedFits tables t) _ (test-frame _ _ _ (p .kept h3))
       (true-or (isAt tables ready t) _
       (λ d. let h4 : 4 ≤ place = omega (arith, eqb-false place 3 d) in
-      true-and _ _ (le-leb 4 place h4) (test-wait p h4))))))
+      true-and _ _ (le-leb 4 place h4) (true-and (waitFits size r tables place) _ (test-wait p h4) (test-joiner p)))))))
 
 module _ (size : ℕ) (r : Registers) (tables : Tables) where
   -- the state and the running thread

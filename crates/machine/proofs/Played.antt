@@ -18,12 +18,12 @@ use Rattle.machine.proofs.Start.{start-right}
 use Rattle.machine.proofs.Steps.{book-append}
 
 -- what one call of the list leaves
-record Kept (size : ℕ) (book : Book) (call : Call) (before : Box) : Type 0 where
-  box : Held size (callOf size call before .box) (bookOf book (callOf size call before .trace))
-  lawful : Lawful book (callOf size call before .trace)
-  answer : NotDamaged (callOf size call before .answer)
+pub record Kept (size : ℕ) (book : Book) (call : Call) (before : Box) : Type 0 where
+  pub box : Held size (callOf size call before .box) (bookOf book (callOf size call before .trace))
+  pub lawful : Lawful book (callOf size call before .trace)
+  pub answer : NotDamaged (callOf size call before .answer)
 
-one-call : (size : ℕ) (card : List ℕ) (cells : ℕ) → readOf card ≡ result.gives cells → (call : Call) →
+pub one-call : (size : ℕ) (card : List ℕ) (cells : ℕ) → readOf card ≡ result.gives cells → (call : Call) →
     Fitting card call →
     (before : Box) (book : Book) → Held size before book → Kept size book call before
 unfolding bookOf Lawful

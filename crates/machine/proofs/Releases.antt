@@ -5,7 +5,7 @@ use mathlib.Core.Bool.{Bool, true, false, cond}
 use mathlib.Core.List.{List, [], _∷_, _++_}
 use mathlib.Core.Logic.{_≢_}
 use native.Mathlib.Omega.{arith}
-use lib.ListN.{length}
+use lib.IntN.{ℤ}
 use Rattle.machine.specs.Book.{Book, Entry, Event, bookOf, eventOf, fed}
 use Rattle.machine.specs.Book as event
 use Rattle.arithmetic.specs.Arithmetic.{eqZ}
@@ -37,9 +37,9 @@ silent : (i : Instruction) → ((size : ℕ) (s u : State) → eventOf size s i 
 silent i is = neither (λ size s u m. differs (eventOf size s i u) m (is size s u))
 
 -- whether a return ends its thread or not
-return-differs : (b : Bool) (m : ℕ) → cond b event.ends event.other ≢ event.unlocks m
-return-differs true m e = absurd (let z : _≡_ {A = ℕ} 0 1 = cc in omega arith)
-return-differs false m e = absurd (let z : _≡_ {A = ℕ} 0 1 = cc in omega arith)
+return-differs : (b : Bool) (v : ℤ) (m : ℕ) → cond b (event.ends v) event.other ≢ event.unlocks m
+return-differs true v m e = absurd (let z : _≡_ {A = ℕ} 0 1 = cc in omega arith)
+return-differs false v m e = absurd (let z : _≡_ {A = ℕ} 0 1 = cc in omega arith)
 
 pub releasing : (i : Instruction) → Releasing i
 unfolding eventOf
@@ -48,7 +48,8 @@ releasing instr.wait = by-wait refl
 releasing instr.lock = neither (λ size s u m e. absurd (let z : _≡_ {A = ℕ} 0 1 = cc in omega arith))
 releasing instr.create = neither (λ size s u m e. absurd (let z : _≡_ {A = ℕ} 0 1 = cc in omega arith))
 releasing instr.exit = neither (λ size s u m e. absurd (let z : _≡_ {A = ℕ} 0 1 = cc in omega arith))
-releasing instr.return = neither (λ size s u m. return-differs (eqZ (cell size s (s .regs .fp - 1)) minusOne) m)
+releasing instr.return = neither (λ size s u m. return-differs (eqZ (cell size s (s .regs .fp - 1)) minusOne) (cell size s (s .regs .fp - 2)) m)
+releasing instr.join = neither (λ size s u m e. absurd (let z : _≡_ {A = ℕ} 0 1 = cc in omega arith))
 releasing instr.newsema = neither (λ size s u m e. absurd (let z : _≡_ {A = ℕ} 0 1 = cc in omega arith))
 releasing instr.up = neither (λ size s u m e. absurd (let z : _≡_ {A = ℕ} 0 1 = cc in omega arith))
 releasing instr.down = neither (λ size s u m e. absurd (let z : _≡_ {A = ℕ} 0 1 = cc in omega arith))
@@ -78,7 +79,6 @@ releasing instr.mark = silent _ (λ size s u. refl)
 releasing instr.call = silent _ (λ size s u. refl)
 releasing instr.new = silent _ (λ size s u. refl)
 releasing instr.yield = silent _ (λ size s u. refl)
-releasing instr.join = silent _ (λ size s u. refl)
 releasing instr.finalize = silent _ (λ size s u. refl)
 releasing instr.newmutex = silent _ (λ size s u. refl)
 releasing instr.newcond = silent _ (λ size s u. refl)

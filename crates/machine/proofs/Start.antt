@@ -61,6 +61,7 @@ module _ (size : ℕ) (some : 1 ≤ size) where
                     only-run = λ e. same-or-not t 0 (λ k. k) (λ k. absurd (omega (arith, elsewhere t k, e)));
                     awaited = awaited-low (placeOf (startTables size) t) (less-or-not (placeOf (startTables size) t) 4 (λ k. omega arith) (λ k. absurd (low t _ (omega arith) refl)));
                     kept = λ k. same-or-not t 0 (λ e. absurd (let mine : placeOf (startTables size) t ≡ active = ap (placeOf (startTables size)) e in omega (arith, mine, k))) (λ e. absurd (omega (arith, elsewhere t e, k)));
+                    has-cell = λ u e. absurd (low t _ (omega arith) e);
                   };
               runner = λ h. (lit≤ tt, refl);
               holders = λ m hm e. absurd (e (unowned m hm));

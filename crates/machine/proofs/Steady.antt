@@ -6,14 +6,14 @@ use mathlib.Core.List.{List, [], _∷_}
 use mathlib.Core.Logic.{_≢_}
 use native.Mathlib.Omega.{arith}
 use lib.IntN.{ℤ, pos, _-ℤ_}
-use lib.ListN.{length, set, length-set}
+use lib.ListN.{getD, length, set, length-set}
 use borrow.Author.Tests.{eqb-false, ltb-true, ltb-false}
 use Rattle.machine.specs.Book.{Book, fed, permitted}
 use Rattle.machine.specs.Book as event
 use Rattle.machine.specs.Plain.{Awaited, Fault, Frame, Mode, SavedFrame}
 use Rattle.machine.specs.Registers.{halted, nobody, running, stuck, withState}
 use Rattle.machine.specs.Size.{conditionLimit, mutexLimit, semaphoreLimit, shared, storeSize, valuesSize}
-use Rattle.machine.specs.State.{State, blocked, ends, finished, left, next, nextOf, semaphoreCount, withCount, withRegs, withTables}
+use Rattle.machine.specs.State.{State, blocked, delivered, ends, finished, left, next, nextOf, savedTop, semaphoreCount, withCount, withRegs, withTables}
 use Rattle.machine.specs.Tables.{Tables, anyLive, atCondition, atEnd, atMutex, atSemaphore, first, lives, ownerOf, ownsAny, placeOf, queue, ready, saved, sent, unlocked}
 use Rattle.machine.proofs.Booked.{entry}
 use Rattle.machine.proofs.Changes.{Aside, Both, aside-condition, aside-end, gives, head-below, leaves, lowers-waits, nobody-at, saves, starts, stops, waits, wakes-all}
@@ -155,6 +155,14 @@ next-right size s book y m none = by-queue (queue (s .tables) ready) refl
         (record { runs = m .runs; sound = m .sound })
         (λ k. omega arith))
 
+-- delivery writes cells of the store, and adds none
+pub delivered-length : (size : ℕ) (tables : Tables) (v : ℤ) (l : List ℕ) (store : List ℤ) →
+    length (delivered size tables v l store) ≡ length store
+unfolding delivered
+delivered-length size tables v [] store = refl
+delivered-length size tables v (t ∷ rest) store =
+    delivered-length size tables v rest (set store (savedTop size tables t) v) ∙ length-set store (savedTop size tables t) v
+
 -- a running machine: a thread runs, and the state says so
 pub record Runs (size : ℕ) (s : State) (book : Book) : Type 0 where
   pub steady : Steady size s book
@@ -171,7 +179,7 @@ module _ (size : ℕ) (s : State) (book : Book) (y : Runs size s book) where
   -- its registers are saved
   saved-both : Both size (s .regs .threads) (s .regs .mutexes) (s .regs .conditions) (s .regs .semaphores) (s .regs .thread) kept book
   unfolding kept
-  saved-both = saves (y .steady .both) (s .regs .thread) (s .regs .pc) (s .regs .cells) (s .regs .fp) below (y .steady .frame)
+  saved-both = saves (y .steady .both) (s .regs .thread) (s .regs .pc) (s .regs .cells) (s .regs .fp) below (omega (arith, y .steady .both .kempt .tidy .runner (y .some) .1)) (y .steady .frame)
 
   saved-here : SavedFrame kept (s .regs .thread)
   unfolding kept
@@ -183,6 +191,10 @@ module _ (size : ℕ) (s : State) (book : Book) (y : Runs size s book) where
         saved-frame (s .tables) (s .regs .thread) (s .regs .pc) (s .regs .cells) (s .regs .fp) (rw (z .frames) below),
       )
       (y .steady .frame)
+
+  same-depth : getD (kept .depths) (s .regs .thread) 0 ≡ s .regs .cells
+  unfolding kept
+  same-depth = saved-depth (s .tables) (s .regs .thread) (s .regs .pc) (s .regs .cells) (s .regs .fp) (rw (y .steady .both .kempt .sizes .depths) below)
 
   same-places : kept .places ≡ s .tables .places
   unfolding kept
@@ -214,8 +226,11 @@ module _ (size : ℕ) (s : State) (book : Book) (y : Runs size s book) where
   Waits p = Awaited size (s .regs .threads) (s .regs .mutexes) (s .regs .conditions) (s .regs .semaphores) (s .tables) p
 
   -- the thread leaves for a place that is no mutex's and no semaphore's
-  pub left-steady : (p : ℕ) → ready ≤ p → Aside size p → Waits p → Steady size (left size s p) book
-  left-steady p high aside w = gone-on p (s .values) book (y .steady .valued) (y .steady .counted) (leaves saved-both p (y .some) high aside (awaited-same w kept same-places same-owners) saved-here)
+  pub left-steady : (p : ℕ) → ready ≤ p → Aside size p → Waits p →
+      ((u : ℕ) → p ≡ atEnd size u → 1 ≤ s .regs .cells) → Steady size (left size s p) book
+  left-steady p high aside w cell =
+      gone-on p (s .values) book (y .steady .valued) (y .steady .counted)
+      (leaves saved-both p (y .some) high aside (awaited-same w kept same-places same-owners) saved-here (λ u e. rw same-depth (cell u e)))
 
   pub left-marked : (p : ℕ) → Marked (left size s p)
   unfolding left
@@ -226,8 +241,9 @@ module _ (size : ℕ) (s : State) (book : Book) (y : Runs size s book) where
   left-none p = refl
 
   -- "wait in its queue, then Next", for ready, a condition or a thread's end
-  pub blocked-right : (p : ℕ) → ready ≤ p → Aside size p → Waits p → Landed size (blocked size s p) book
-  blocked-right p high aside w = next-right size (left size s p) book (left-steady p high aside w) (left-marked p) (left-none p)
+  pub blocked-right : (p : ℕ) → ready ≤ p → Aside size p → Waits p →
+      ((u : ℕ) → p ≡ atEnd size u → 1 ≤ s .regs .cells) → Landed size (blocked size s p) book
+  blocked-right p high aside w cell = next-right size (left size s p) book (left-steady p high aside w cell) (left-marked p) (left-none p)
 
   -- for a mutex, which feeds the book
   pub lock-blocked : (m : ℕ) → m < s .regs .mutexes → ownerOf (s .tables) m ≢ size →
@@ -256,22 +272,22 @@ module _ (size : ℕ) (s : State) (book : Book) (y : Runs size s book) where
 
   -- the thread ends, where it owns no mutex
   pub ends-right : ownsAny size (s .tables) (s .regs .thread) ≡ false → (v : ℤ) →
-      Landed size (ends size s v) (fed book (entry (s .regs .thread) event.ends))
+      Landed size (ends size s v) (fed book (entry (s .regs .thread) (event.ends v)))
   unfolding finished ownsAny
   ends-right free v =
       let b = y .steady .both in
       let woken = wakes-all b (atEnd size (s .regs .thread)) (omega arith) (aside-end (s .regs .thread)) in
-      next-right size (finished size s v) (fed book (entry (s .regs .thread) event.ends))
+      next-right size (finished size s v) (fed book (entry (s .regs .thread) (event.ends v)))
       (record {
         both =
-            stops (woken .0) (y .some) (woken .1)
+            stops (woken .0) v (y .some) (woken .1)
             (λ m h. rw (woken-owner (queue (s .tables) (atEnd size (s .regs .thread))) (s .tables) m) (eqb-false _ _ (some-false (mutexLimit size) _ free m h)));
         frame = y .steady .frame;
         free-least = y .steady .free-least;
         free-most = y .steady .free-most;
-        stored = y .steady .stored;
+        stored = delivered-length size _ _ _ _ ∙ y .steady .stored;
         valued = length-set (s .values) (s .regs .thread) v ∙ y .steady .valued;
-        counted = rw (fed-ends book (s .regs .thread)) (counted-result (y .steady .counted) (s .regs .thread) v below);
+        counted = rw (fed-ends book (s .regs .thread) v) (counted-result (y .steady .counted) (s .regs .thread) v below);
       })
       (record { runs = y .marked .runs; sound = y .marked .sound })
       refl
@@ -283,7 +299,7 @@ module _ (size : ℕ) (s : State) (book : Book) (y : Runs size s book) where
   unfolding left kept
   wait-right c m made-c made-m held =
       let limit : c < conditionLimit size = omega (arith, y .steady .both .kempt .tidy .counts .conditions-fit) in
-      let u = left-steady (atCondition size c) (omega arith) (aside-condition c limit) (awaited-condition c limit made-c) in
+      let u = left-steady (atCondition size c) (omega arith) (aside-condition c limit) (awaited-condition c limit made-c) (λ w e. absurd (omega (arith, e, limit))) in
       let owner = sent-owner kept (s .regs .thread) (atCondition size c) m in
       let still-held : ownerOf (sent kept (s .regs .thread) (atCondition size c)) m ≢ size = rw (owner, same-owners) held in
       next-right size _ (fed book (entry (s .regs .thread) (event.unlocks m)))

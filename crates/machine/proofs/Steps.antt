@@ -70,7 +70,7 @@ marked size s book r e =
     let runs : s .regs .state ≡ running = eqb-true _ _ e in
     record { runs = runs; sound = r .number .none (λ k. omega (arith, k)) }
 
-some-thread : (size : ℕ) (s : State) (book : Book) → Right size s book → isRunning (s .regs) ≡ true →
+pub some-thread : (size : ℕ) (s : State) (book : Book) → Right size s book → isRunning (s .regs) ≡ true →
     s .regs .thread ≢ size
 some-thread size s book r e = r .mode .has-thread (eqb-true _ _ e)
 
@@ -84,7 +84,7 @@ module _ (size : ℕ) (words : List ℕ) (card : Card words) where
   outcome s book r some i (fault k) e by = fault-right size s book r some k e
 
   -- PC has advanced to one that is in the card or just past it
-  onward-runs : (s : State) (book : Book) → Right size s book → isRunning (s .regs) ≡ true →
+  pub onward-runs : (s : State) (book : Book) → Right size s book → isRunning (s .regs) ≡ true →
       s .regs .pc < length words → Runs size (onward s) book
   onward-runs s book r e below =
       record {

@@ -45,13 +45,15 @@ feeds m now thread (event.unlocks k) =
     (λ e. neither (λ q. absurd (let z : _≡_ {A = ℕ} 0 1 = cc in omega arith)) (unlock-differs k m (λ q. e (sym q))) (rw (ne-eqb m k e)) refl)
 feeds m now thread (event.creates v) =
     neither (λ q. absurd (let z : _≡_ {A = ℕ} 0 1 = cc in omega arith)) (λ q. absurd (let z : _≡_ {A = ℕ} 0 1 = cc in omega arith)) refl refl
-feeds m now thread event.ends =
+feeds m now thread (event.ends v) =
     neither (λ q. absurd (let z : _≡_ {A = ℕ} 0 1 = cc in omega arith)) (λ q. absurd (let z : _≡_ {A = ℕ} 0 1 = cc in omega arith)) refl refl
 feeds m now thread (event.opens n v) =
     neither (λ q. absurd (let z : _≡_ {A = ℕ} 0 1 = cc in omega arith)) (λ q. absurd (let z : _≡_ {A = ℕ} 0 1 = cc in omega arith)) refl refl
 feeds m now thread (event.ups k) =
     neither (λ q. absurd (let z : _≡_ {A = ℕ} 0 1 = cc in omega arith)) (λ q. absurd (let z : _≡_ {A = ℕ} 0 1 = cc in omega arith)) refl refl
 feeds m now thread (event.downs k) =
+    neither (λ q. absurd (let z : _≡_ {A = ℕ} 0 1 = cc in omega arith)) (λ q. absurd (let z : _≡_ {A = ℕ} 0 1 = cc in omega arith)) refl refl
+feeds m now thread (event.joins u) =
     neither (λ q. absurd (let z : _≡_ {A = ℕ} 0 1 = cc in omega arith)) (λ q. absurd (let z : _≡_ {A = ℕ} 0 1 = cc in omega arith)) refl refl
 feeds m now thread event.other =
     neither (λ q. absurd (let z : _≡_ {A = ℕ} 0 1 = cc in omega arith)) (λ q. absurd (let z : _≡_ {A = ℕ} 0 1 = cc in omega arith)) refl refl

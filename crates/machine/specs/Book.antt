@@ -19,8 +19,10 @@ pub data Event : Type 0 where
   unlocks : ℕ → Event
   -- create, with the number pushed
   creates : ℤ → Event
-  -- exit, or return at −1
-  ends : Event
+  -- exit, or return at −1, with what the thread ends with
+  ends : ℤ → Event
+  -- join on a thread (change request Six)
+  joins : ℕ → Event
   -- newsema, with its starting count and the number pushed (change request Four)
   opens : ℕ → ℤ → Event
   -- up and down on a semaphore; a down is entered when it is begun, also by a thread that then waits
@@ -40,8 +42,10 @@ eventOf size before instr.lock after = locks (natAbs (top size before))
 eventOf size before instr.unlock after = unlocks (natAbs (top size before))
 eventOf size before instr.wait after = unlocks (natAbs (below size before))
 eventOf size before instr.create after = creates (top size after)
-eventOf size before instr.exit after = ends
-eventOf size before instr.return after = cond (eqZ (cell size before (before .regs .fp - 1)) minusOne) ends other
+eventOf size before instr.exit after = ends (top size before)
+eventOf size before instr.return after =
+    cond (eqZ (cell size before (before .regs .fp - 1)) minusOne) (ends (cell size before (before .regs .fp - 2))) other
+eventOf size before instr.join after = joins (natAbs (top size before))
 eventOf size before instr.newsema after = opens (natAbs (top size before)) (top size after)
 eventOf size before instr.up after = ups (natAbs (top size before))
 eventOf size before instr.down after = downs (natAbs (top size before))
@@ -71,7 +75,6 @@ eventOf size before instr.mark after = other
 eventOf size before instr.call after = other
 eventOf size before instr.new after = other
 eventOf size before instr.yield after = other
-eventOf size before instr.join after = other
 eventOf size before instr.finalize after = other
 eventOf size before instr.newmutex after = other
 eventOf size before instr.newcond after = other
@@ -159,12 +162,13 @@ fed book entry = told book (entry .thread) (entry .event)
         }
     told b thread (creates v) =
         record { living = born (b .living) v; names = b .names; releases = b .releases; permits = b .permits }
-    told b thread ends =
+    told b thread (ends v) =
         record { living = gone (b .living) thread; names = b .names; releases = b .releases; permits = b .permits }
     told b thread (opens n v) = withPermits b (opened (b .permits) n v)
     told b thread (ups k) = withPermits b (upped (b .permits) k)
     told b thread (downs k) = withPermits b (downed (b .permits) thread k)
     -- "Any other instruction .. changes nothing"
+    told b thread (joins u) = b
     told b thread other = b
 
 -- the book after a trace

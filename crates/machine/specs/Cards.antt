@@ -32,6 +32,9 @@ dup = plain 8
 abbrev pub add : ℕ
 add = plain 9
 
+abbrev pub sub : ℕ
+sub = plain 10
+
 abbrev pub mul : ℕ
 mul = plain 11
 
@@ -55,6 +58,9 @@ exit = plain 28
 
 abbrev pub join : ℕ
 join = plain 29
+
+abbrev pub finalize : ℕ
+finalize = plain 30
 
 abbrev pub newmutex : ℕ
 newmutex = plain 31

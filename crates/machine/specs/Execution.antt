@@ -160,14 +160,12 @@ module _ (size n : ℕ) (s : State) where
   unfoldable pub owns : ℕ → Outcome → Outcome
   owns m o = cond (eqb (ownerOf (s .tables) m) (s .regs .thread)) o (fault 28)
 
-  -- "join: if thread top has ended, go on; else wait in its queue, then Next. Top stays."
+  -- "when the awaited thread has ended already, join replaces top by its result" (change request Six); "else wait in
+  -- its queue, then Next", its top still the number, until the ending thread writes the result there: `delivered`
   abbrev pub joining : ℕ → Outcome
-  joining t = cond (eqb (placeOf (s .tables) t) ended) (done s) (done (blocked size s (atEnd size t)))
-
-  -- "finalize replaces it by that thread's result"; 29: "finalize of a thread not ended"
-  abbrev pub finalizing : ℕ → Outcome
-  finalizing t =
-      cond (eqb (placeOf (s .tables) t) ended) (done (replaced (getD (s .values) t (pos 0)))) (fault 29)
+  joining t =
+      cond (eqb (placeOf (s .tables) t) ended) (done (replaced (getD (s .values) t (pos 0))))
+      (done (blocked size s (atEnd size t)))
 
   -- "lock pops; if free, take it; else wait, then Next"
   abbrev pub locking : ℕ → Outcome
@@ -272,7 +270,9 @@ module _ (size n : ℕ) (s : State) where
   exec instr.yield = done (blocked size s ready)
   exec instr.exit = needs 1 depth (ending size s (top size s))
   exec instr.join = needs 1 depth (aThread (top size s) joining)
-  exec instr.finalize = needs 1 depth (aThread (top size s) finalizing)
+  -- "finalize keeps its opcode, needs one cell and does nothing" (change request Six): after a join the result is on
+  -- top already, so the lectures' join and finalize, one after the other, still leave the result there
+  exec instr.finalize = needs 1 depth (done s)
   exec instr.newmutex =
       rooms 1 depth (cond (ltb (s .regs .mutexes) (mutexLimit size)) (done mutexMade) (done (pushed minusOne)))
   exec instr.lock = needs 1 depth (aMutex (top size s) locking)

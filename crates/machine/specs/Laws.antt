@@ -10,9 +10,10 @@ use lib.IntN.{negsuc, pos}
 use lib.ListN.{length}
 use Rattle.card.specs.Image.{readOf}
 use Rattle.card.specs.Result as result
-use Rattle.machine.specs.Book.{Entry, unlocks}
+use Rattle.machine.specs.Book.{Entry, ends, joins, unlocks}
 use Rattle.machine.specs.Calls.{Box, Called, answerOf, boxOf, cardOf, countOf, inState, refusedBy, runCall, setUp, stateOf, stepCall, storeFits}
-use Rattle.machine.specs.Cards.{card, create, down, loadc, lock, newmutex, newsema, unlock, yield}
+use Rattle.machine.specs.Cards.{card, create, down, exit, join, loadc, lock, newmutex, newsema, unlock, yield}
+use Rattle.machine.specs.Delivery.{topOf}
 use Rattle.machine.specs.Order.{entryAt}
 use Rattle.machine.specs.Played.{Call, Played, callOf, played, runOn}
 use Rattle.machine.specs.Registers.{isFault, isRunning, running, stopped, zeros}
@@ -21,7 +22,7 @@ use Rattle.machine.specs.Size.{full, shared, storeSize, tablesSize, valu
 use Rattle.machine.specs.State.{State, semaphoreCount, start, withRegs}
 use Rattle.machine.specs.Step.{carried, run}
 use Rattle.machine.specs.Step as steps
-use Rattle.machine.specs.Tables.{Tables, atMutex, atSemaphore, ownerOf, queue}
+use Rattle.machine.specs.Tables.{Tables, atEnd, atMutex, atSemaphore, ownerOf, queue}
 use Rattle.machine.specs.WellFormed.{wellFormed}
 
 -- a box that numbers 6 and 7 let through: its store fits, and it is well formed
@@ -157,8 +158,21 @@ lowered =
 abbrev pub awaited : State
 awaited = stateOf full (played full (runOn lowered 11 ∷ []) (setUp full lowered (lent full) .box) .box)
 
+-- a card on which threads 1 and 2, from 9 on, join thread 0, which then ends with 7; thread 1 joins it once more, late
+-- (change request Six)
+abbrev pub joining : List ℕ
+joining =
+    card
+    (loadc (pos 9) ∷ loadc (pos 0) ∷ create ∷ loadc (pos 9) ∷ loadc (pos 0) ∷ create ∷ yield ∷ loadc (pos 7) ∷ exit
+    ∷ loadc (pos 0) ∷ join ∷ loadc (pos 0) ∷ join ∷ exit ∷ [])
+
+-- what a run of so many steps on it gives
+abbrev pub joiners : ℕ → Played
+joiners steps = played full (runOn joining steps ∷ []) (setUp full joining (lent full) .box)
+
 -- none of this is empty: an accepted card exists, and after a list of calls a mutex has an owner and somebody waits
--- for it, who has it after the owner's unlock; on another card two wait for a semaphore, whose count says so
+-- for it, who has it after the owner's unlock; on another card two wait for a semaphore, whose count says so; on a
+-- third two wait for a thread's end, which delivers its result to both
 pub record NotEmpty : Type 0 where
   pub accepted : readOf contended ≡ result.gives 1
   pub owner : ownerOf between 0 ≡ 0
@@ -168,3 +182,15 @@ pub record NotEmpty : Type 0 where
   pub semaphore : awaited .regs .semaphores ≡ 1
   pub count : semaphoreCount full (awaited .values) 0 ≡ negsuc 1
   pub in-line : queue (awaited .tables) (atSemaphore full 0) ≡ 1 ∷ 0 ∷ []
+  -- threads 1 and 2 executed join, and wait; ..
+  pub joined-first : entryAt (joiners 13 .trace) 8 ≡ record { thread = 1; event = joins 0 }
+  pub joined-second : entryAt (joiners 13 .trace) 10 ≡ record { thread = 2; event = joins 0 }
+  pub both-wait : queue (stateOf full (joiners 12 .box) .tables) (atEnd full 0) ≡ 1 ∷ 2 ∷ []
+  -- .. thread 0 ends with 7: thread 1 goes on with it on top, and thread 2 has it there; ..
+  pub ended-with : entryAt (joiners 13 .trace) 12 ≡ record { thread = 0; event = ends (pos 7) }
+  pub goes-on : stateOf full (joiners 13 .box) .regs .thread ≡ 1
+  pub first-has : topOf full (stateOf full (joiners 13 .box)) 1 ≡ pos 7
+  pub second-has : topOf full (stateOf full (joiners 13 .box)) 2 ≡ pos 7
+  -- .. and a late join has it at once
+  pub late : entryAt (joiners 15 .trace) 14 ≡ record { thread = 1; event = joins 0 }
+  pub late-has : topOf full (stateOf full (joiners 15 .box)) 1 ≡ pos 7

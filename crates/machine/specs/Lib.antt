@@ -20,4 +20,5 @@ pub mod Order
 pub mod Demand
 pub mod Laws
 pub mod Semaphores
+pub mod Delivery
 pub mod Mistakes

@@ -10,6 +10,11 @@ unfoldable pub keep : (ℕ → Bool) → List ℕ → List ℕ
 keep f [] = []
 keep f (x ∷ xs) = cond (f x) (x ∷ keep f xs) (keep f xs)
 
+-- a number is one of a list
+abbrev pub isAmong : ℕ → List ℕ → Bool
+isAmong t [] = false
+isAmong t (x ∷ xs) = eqb t x || isAmong t xs
+
 -- how often a number occurs
 unfoldable pub count : ℕ → List ℕ → ℕ
 count t [] = 0

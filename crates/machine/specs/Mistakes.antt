@@ -1,11 +1,11 @@
--- "Errors that look right": for each of the five a small card on which it would show, and what change requests Two to
--- Four tell apart. One table, of the same kind as the paper's sessions, in a box of three threads: none of these
+-- "Errors that look right": for each of the five a small card on which it would show, and what change requests Two,
+-- Three, Four and Six tell apart. One table, of the same kind as the paper's sessions, in a box of three threads: none of these
 -- cards makes more, and a small box computes sooner. Where an order is at stake, each thread ends with how many came
 -- before it, which shared cell 0 counts. The proof is in proofs/Sessions.antt.
 use Prim.Native.Nat.{ℕ}
 use mathlib.Core.List.{List, [], _∷_, _++_}
 use lib.IntN.{pos, negsuc}
-use Rattle.machine.specs.Cards.{add, broadcast, call, card, create, down, dup, exit, halt, join, load, loadc, lock, mark, newcond, newmutex, newsema, pop, return, signal, store, unlock, up, wait, yield}
+use Rattle.machine.specs.Cards.{add, broadcast, call, card, create, down, dup, exit, finalize, halt, join, load, loadc, lock, mark, newcond, newmutex, newsema, pop, return, signal, store, sub, unlock, up, wait, yield}
 use Rattle.machine.specs.Lists.{Each}
 use Rattle.machine.specs.Sessions.{Gives, Session, with}
 
@@ -106,6 +106,34 @@ mistakes =
           ++ exit ∷ []);
       line = "halted 32 2\n";
       results = with 0 (pos 2) ∷ with 1 (pos 1) ∷ with 2 (pos 0) ∷ [];
+    }
+    -- "the ending thread writes its result to the top cell of each waiter" (change request Six): thread 1, from 9 on,
+    -- joins thread 0 with 5 below, and ends with 5 − 7; thread 2, from 14 on, is late, and ends with the result itself
+    ∷ record {
+      image =
+          card
+          (make 9 ++ (yield ∷ make 14) ++ (number 7 ∷ exit ∷ number 5 ∷ number 0 ∷ join ∷ sub ∷ exit ∷ number 0 ∷ join
+          ∷ exit ∷ []));
+      line = "halted 17 7\n";
+      results = with 0 (pos 7) ∷ with 1 (negsuc 1) ∷ with 2 (pos 7) ∷ [];
+    }
+    -- .. and an end that 31 refuses delivers nothing: thread 1, from 8 on, waits for thread 0, which owns the mutex
+    ∷ record {
+      image = card (newmutex ∷ lock ∷ make 8 ++ (yield ∷ number 7 ∷ exit ∷ number 0 ∷ join ∷ exit ∷ []));
+      line = "fault 31 0 7 9\n";
+      results = [];
+    }
+    -- the lectures' join and finalize, one after the other, leave the result on top
+    ∷ record {
+      image = card (make 6 ++ (join ∷ finalize ∷ exit ∷ number 4 ∷ exit ∷ []));
+      line = "halted 8 4\n";
+      results = with 0 (pos 4) ∷ with 1 (pos 4) ∷ [];
+    }
+    -- finalize alone "does nothing": it looks at no number, so -1 is neither 33 nor 29
+    ∷ record {
+      image = card (loadc (negsuc 0) ∷ finalize ∷ exit ∷ []);
+      line = "halted 3 -1\n";
+      results = with 0 (negsuc 0) ∷ [];
     }
     ∷ []
 

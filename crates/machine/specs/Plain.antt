@@ -59,6 +59,8 @@ pub record Placed (size threads mutexes conditions semaphores run : ℕ) (tables
   pub awaited : Awaited size threads mutexes conditions semaphores tables (placeOf tables t)
   -- a thread that is ready or waits has its registers saved
   pub kept : ready ≤ placeOf tables t → SavedFrame tables t
+  -- "a thread waiting for another's end has a cell on its stack" (change request Six)
+  pub has-cell : (u : ℕ) → placeOf tables t ≡ atEnd size u → 1 ≤ getD (tables .depths) t 0
 
 -- the tables, for so many of each made and the thread that runs, or the size where none does
 pub record Tidy (size threads mutexes conditions semaphores run : ℕ) (tables : Tables) : Type 0 where

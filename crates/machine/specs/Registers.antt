@@ -1,7 +1,10 @@
 -- "The machine": the four states and the registers, which go in by value and come back advanced.
-use Prim.Native.Nat.{ℕ, _+_, _-_}
-use mathlib.Core.Bool.{Bool, _&&_}
-use lib.Dec.{eqb, leb}
+use Prim.Native.Nat.{ℕ, _+_}
+use mathlib.Core.Bool.{Bool, false}
+use mathlib.Core.List.{List, [], _∷_}
+use mathlib.Core.Path.{_≡_, refl}
+use lib.Dec.{eqb}
+use Rattle.machine.specs.Lists.{isAmong}
 use Rattle.machine.specs.declared.registers.Registers.{Registers}
 
 -- "A machine is running, halted, stuck or faulted." Halted is 0, since a refused set-up gives all registers 0, halted.
@@ -165,9 +168,16 @@ advanced r = withPc r (r .pc + 1)
 abbrev pub switched : Registers → ℕ → ℕ → ℕ → ℕ → Registers
 switched r thread pc cells fp = withFp (withCells (withPc (withState r (r .state) thread) pc) cells) fp
 
--- "Numbers given when it can't be done", "the table from 20 up": which numbers are faults is said here alone
+-- "Numbers given when it can't be done", "the table from 20 up": which numbers are faults is said here alone. 29 is
+-- not among them: it "is no longer given and leaves the table" (change request Six).
+abbrev pub faults : List ℕ
+faults = 20 ∷ 21 ∷ 22 ∷ 23 ∷ 24 ∷ 25 ∷ 26 ∷ 27 ∷ 28 ∷ 30 ∷ 31 ∷ 32 ∷ 33 ∷ 34 ∷ []
+
 abbrev pub isFault : ℕ → Bool
-isFault number = leb 20 number && leb number 34
+isFault number = isAmong number faults
+
+no-29 : isFault 29 ≡ false
+no-29 = refl
 
 -- "Faults 20 up mark the machine faulted"; "the registers keep the number"
 abbrev pub stopped : Registers → ℕ → Registers

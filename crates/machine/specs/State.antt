@@ -1,13 +1,13 @@
 -- "The machine": its state, cells and stacks, a new thread, setting up, Next and ending.
 use Prim.Native.Nat.{ℕ, _+_, _-_, _*_}
 use mathlib.Core.Bool.{cond}
-use mathlib.Core.List.{List, _∷_}
+use mathlib.Core.List.{List, [], _∷_}
 use lib.IntN.{ℤ, pos, negsuc}
 use lib.ListN.{getD, set, replicate}
 use Rattle.machine.specs.Lists.{upTo}
 use Rattle.machine.specs.Registers.{halted, running, stuck, nobody, switched, withState}
 use Rattle.machine.specs.Size.{stackAt, storeSize, valuesSize}
-use Rattle.machine.specs.Tables.{Tables, active, anyLive, atEnd, ended, first, ready, saved, sent, wakeAll}
+use Rattle.machine.specs.Tables.{Tables, active, anyLive, atEnd, ended, first, queue, ready, saved, sent, wakeAll}
 use Rattle.machine.specs.declared.numbers.First.{First}
 use Rattle.machine.specs.declared.numbers.First.the-variants.{Waiter, Nobody}
 use Rattle.machine.specs.declared.registers.Registers.{Registers}
@@ -144,11 +144,22 @@ left size s place =
 abbrev pub blocked : ℕ → State → ℕ → State
 blocked size s place = next size (left size s place)
 
--- "Ending: the result is kept, all who wait for it go to the ready tail in their order, then Next."
+-- the top cell of a thread that doesn't run, in the store: it is on the thread's own stack, where its saved registers
+-- say
+abbrev pub savedTop : ℕ → Tables → ℕ → ℕ
+savedTop size tables t = stackAt size t (getD (tables .depths) t 0 - 1)
+
+-- "the ending thread writes its result to the top cell of each waiter" (change request Six), one after another
+unfoldable pub delivered : ℕ → Tables → ℤ → List ℕ → List ℤ → List ℤ
+delivered size tables v [] store = store
+delivered size tables v (t ∷ rest) store = delivered size tables v rest (set store (savedTop size tables t) v)
+
+-- "Ending: the result is kept, all who wait for it go to the ready tail in their order, then Next.", each with the
+-- result in its top cell
 unfoldable pub finished : ℕ → State → ℤ → State
 finished size s v =
     record {
-      store = s .store;
+      store = delivered size (s .tables) v (queue (s .tables) (atEnd size (s .regs .thread))) (s .store);
       tables = sent (wakeAll (s .tables) (atEnd size (s .regs .thread))) (s .regs .thread) ended;
       values = set (s .values) (s .regs .thread) v;
       regs = withState (s .regs) (s .regs .state) (nobody size);

@@ -56,6 +56,10 @@ waitFits size r tables p =
     (cond (ltb p (4 + 5 * size)) (ltb (p - (4 + 4 * size)) (r .semaphores))
     (ltb (p - (4 + 5 * size)) (r .threads) && negate (eqb (placeOf tables (p - (4 + 5 * size))) ended))))
 
+-- "a thread waiting for another's end has a cell on its stack" (change request Six)
+abbrev pub joinerFits : ℕ → Tables → ℕ → Bool
+joinerFits size tables t = ltb (placeOf tables t) (4 + 5 * size) || ltb 0 (getD (tables .depths) t 0)
+
 -- "each live thread in one place, ended and unmade ones in none": a thread's place by what it is
 abbrev pub threadFits : ℕ → Registers → Tables → ℕ → Bool
 threadFits size r tables t =
@@ -63,7 +67,9 @@ threadFits size r tables t =
     (cond (eqb t (r .thread)) (isAt tables active t)
     (isAt tables ended t
     || (savedFits tables t
-    && (isAt tables ready t || (leb 4 (placeOf tables t) && waitFits size r tables (placeOf tables t))))))
+    && (isAt tables ready t
+    || (leb 4 (placeOf tables t)
+    && (waitFits size r tables (placeOf tables t) && joinerFits size tables t))))))
 
 -- "owners are threads made, and what isn't made yet has neither owner .."; "an owner is a live thread" (change
 -- request Two)

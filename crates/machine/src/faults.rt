@@ -26,8 +26,7 @@ pub const NO_MUTEX: usize = 27;
 // unlock or wait by another than the owner.
 pub const NOT_OWNER: usize = 28;
 
-// finalize of a thread that has not ended.
-pub const NOT_ENDED: usize = 29;
+// 29 is no longer given: it stood for finalize of a thread that has not ended, and finalize now does nothing.
 
 // new of fewer than 1, or a negative starting count.
 pub const BAD_COUNT: usize = 30;

@@ -41,11 +41,27 @@ pub fn registers_fit(r: Registers, size: usize) -> bool
                 && (r.thread < r.threads || r.thread == size)))
 }
 
-// A number of the table from 20 up.
+// A number of the table from 20 up, in which 29 is missing.
 fn is_fault(number: usize) -> bool
     ensures { λ b. ⌜ b ≡ isFault number ⌝ }
 {
-    in_range(faults::NO_INSTRUCTION, faults::NO_SEMAPHORE, number)
+    match number {
+        faults::NO_INSTRUCTION
+        | faults::STACK_UNDERFLOW
+        | faults::STACK_OVERFLOW
+        | faults::BAD_ADDRESS
+        | faults::ARITHMETIC
+        | faults::BAD_TARGET
+        | faults::BAD_FRAME
+        | faults::NO_MUTEX
+        | faults::NOT_OWNER
+        | faults::BAD_COUNT
+        | faults::STILL_OWNER
+        | faults::NO_CONDITION
+        | faults::NO_THREAD
+        | faults::NO_SEMAPHORE => true,
+        _ => false,
+    }
 }
 
 // A faulted machine has the number of its fault, any other has none.

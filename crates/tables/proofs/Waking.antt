@@ -66,6 +66,29 @@ module _ (size : ℕ) (l l₁ : List ℕ) (from : ℕ) (answer : First) (g : Goo
       took-tables size l l₁ from answer Nobody d e
       ∙ ap (λ (a : First). wakeOne a (tablesOf size l)) (sym e ∙ d .found)
 
+  -- it is sent to the ready tail, and the rest stay in the queue
+  pub record Went (l′ : List ℕ) (t : ℕ) : Type 0 where
+    pub rest : List ℕ
+    pub was : queue (tablesOf size l) from ≡ t ∷ rest
+    pub is : queue (tablesOf size l′) from ≡ rest
+    pub next : tablesOf size l′ ≡ sent (tablesOf size l) t ready
+
+  pub went : (l′ : List ℕ) (t : Thread) → 3 < from → answer ≡ Waiter t →
+      tablesOf size l′ ≡ sent (tablesOf size l₁) (t .0) ready → Went l′ (t .0)
+  went l′ t high e on =
+      let before : Tables = tablesOf size l in
+      let h = head before from t (took-first size l l₁ from answer (Waiter t) d e) in
+      let below : t .0 < size = d .real t e in
+      let next : tablesOf size l′ ≡ sent before (t .0) ready = on ∙ sent-on t ready e in
+      record {
+        rest = h .rest;
+        was = h .is;
+        is =
+            ap (λ (x : Tables). queue x from) next
+            ∙ queue-left before (t .0) ready from (h .rest) (rw (slice-sizes size l (g .long) .places) below) (g .line .once (t .0) below) (λ k. omega (arith, k)) (h .is);
+        next = next;
+      }
+
   -- all are woken one after the other: one is, and the rest are still to be
   pub record Woke (l′ : List ℕ) : Type 0 where
     pub same : wakeAll (tablesOf size l) from ≡ wakeAll (tablesOf size l′) from
@@ -74,18 +97,9 @@ module _ (size : ℕ) (l l₁ : List ℕ) (from : ℕ) (answer : First) (g : Goo
   pub woke : (l′ : List ℕ) (t : Thread) → 3 < from → answer ≡ Waiter t →
       tablesOf size l′ ≡ sent (tablesOf size l₁) (t .0) ready → Woke l′
   unfolding allReady
-  woke l′ t high e went =
-      let before : Tables = tablesOf size l in
-      let h = head before from t (took-first size l l₁ from answer (Waiter t) d e) in
-      let below : t .0 < size = d .real t e in
-      let next : tablesOf size l′ ≡ sent before (t .0) ready = went ∙ sent-on t ready e in
-      let rest : queue (tablesOf size l′) from ≡ h .rest =
-      ap (λ (x : Tables). queue x from) next
-      ∙ queue-left before (t .0) ready from (h .rest) (rw (slice-sizes size l (g .long) .places) below) (g .line .once (t .0) below) (λ k. omega (arith, k)) (h .is) in
-      record {
-        same = rw (h .is, rest, next);
-        fewer = rw (rest, h .is) (omega arith);
-      }
+  woke l′ t high e on =
+      let w = went l′ t high e on in
+      record { same = rw (w .was, w .is, w .next); fewer = rw (w .is, w .was) (omega arith) }
 
   -- nobody is left
   pub all-woken : answer ≡ Nobody → tablesOf size l₁ ≡ wakeAll (tablesOf size l) from

@@ -29,6 +29,7 @@ pub use places::at_end;
 pub use places::at_mutex;
 pub use places::at_semaphore;
 pub use places::awaited_at;
+pub use places::awaits_end;
 pub use queues::dequeue;
 pub use queues::make_ready;
 pub use queues::wake_all;

@@ -1,6 +1,7 @@
 // Where a thread is, as a number for each place: not made, ended, running, ready, or in the queue of what it waits for.
 ghost use mathlib.Core.Path.{_≡_};
-ghost use Prim.Native.Nat.{_*_, _<_, _≤_};
+ghost use Prim.Native.Nat.{_+_, _*_, _<_, _≤_};
+ghost use lib.Dec.{leb};
 ghost use Rattle.machine.specs.Tables.{atCondition, atEnd, atMutex, atSemaphore};
 ghost use Rattle.tables.specs.Places.{awaitedAt};
 use machine::Condition;
@@ -57,6 +58,14 @@ pub fn at_end(size: usize, t: Thread) -> usize
     ensures { λ p. ⌜ p ≡ atEnd size (t .0) ⌝ }
 {
     FIRST_QUEUE + ENDS * size + t.0
+}
+
+// Whether those at a place wait for a thread's end: their queues are the last.
+pub fn awaits_end(size: usize, place: usize) -> bool
+    requires { ⌜ size ≤ 32 ⌝ }
+    ensures { λ b. ⌜ b ≡ leb (4 + 5 * size) place ⌝ }
+{
+    FIRST_QUEUE + ENDS * size <= place
 }
 
 // What a thread waits for. The number need not be one that was made.

@@ -5,7 +5,7 @@ ghost use Prim.Native.Nat.{_*_, _<_, _≤_};
 ghost use lib.Dec.{eqb};
 ghost use Rattle.machine.specs.Lists.{every};
 ghost use Rattle.machine.specs.Tables.{ownerOf, tablesOf};
-ghost use Rattle.machine.specs.WellFormed.{savedFits, threadFits, waitFits};
+ghost use Rattle.machine.specs.WellFormed.{joinerFits, savedFits, threadFits, waitFits};
 ghost use Rattle.cells.specs.Contract.{Made};
 ghost use Rattle.tables.specs.Good.{Good};
 use machine::Mutex;
@@ -52,6 +52,16 @@ fn wait_fits(r: Registers, tables: &[usize], size: usize, place: usize) -> bool
     }
 }
 
+// One that waits for another's end has a cell, where the result goes.
+fn joiner_fits(tables: &[usize], size: usize, t: usize) -> bool
+    requires { ⌜ Good size (now tables) ⌝ }
+    requires { ⌜ t < size ⌝ }
+    ensures { λ b. ⌜ b ≡ joinerFits size (tablesOf size (now (tables .entry))) t ⌝ }
+{
+    let place = tables::place(tables, size, Thread(t));
+    !tables::awaits_end(size, place) || 0 < tables::saved_cells(tables, size, Thread(t))
+}
+
 fn thread_fits(r: Registers, tables: &[usize], size: usize, t: usize) -> bool
     requires { ⌜ Good size (now tables) ⌝ }
     requires { ⌜ Made size r ⌝ }
@@ -70,7 +80,8 @@ fn thread_fits(r: Registers, tables: &[usize], size: usize, t: usize) -> bool
     }
     saved_fits(tables, size, t)
         && (place == tables::READY
-            || tables::FIRST_QUEUE <= place && wait_fits(r, tables, size, place))
+            || tables::FIRST_QUEUE <= place
+                && (wait_fits(r, tables, size, place) && joiner_fits(tables, size, t)))
 }
 
 pub fn threads_fit(r: Registers, tables: &[usize], size: usize) -> bool

@@ -14,8 +14,14 @@ natural-requires c κs = rw (toZ-ofZ (c .before .before .before .fits .operand))
 alloc-requires : tie.Need-alloc-requires
 alloc-requires c κs = (c .before .before .before .before .pre .0 .able, rw (c .natural .ensures, toZ-ofZ (c .before .before .before .before .fits .operand)) (cells-few _ _ _ (c .before .before .before .before .pre .1 .0) (c .before .before .match .keys2)))
 
-finalize-requires : tie.Need-finalize-requires
-finalize-requires c κs = let w = c .before .before .before .before .before .pre .0 in (w .able, (w .good, (w .valued, w .made)))
+return-from-requires : tie.Need-return-from-requires
+return-from-requires c κs = let w = c .before .before .before .before .before .pre .0 in (w .able, (w .good, (w .valued, w .receivers)))
+
+exit-requires : tie.Need-exit-requires
+exit-requires c κs = let w = c .before .before .before .before .before .pre .0 in (w .able, (w .good, (w .valued, w .receivers)))
+
+join-requires : tie.Need-join-requires
+join-requires c κs = let w = c .before .before .before .before .before .pre .0 in (w .able, (w .good, (w .valued, w .made)))
 
 up-requires : tie.Need-up-requires
 up-requires c κs = let w = c .before .before .before .before .before .pre .0 in (w .able, (w .good, (w .valued, w .made)))
@@ -40,12 +46,12 @@ execute-spec =
     (λ c κs. search needs)
     natural-requires
     alloc-requires
+    return-from-requires
     (λ c κs. search needs)
     (λ c κs. search needs)
+    exit-requires
+    join-requires
     (λ c κs. search needs)
-    (λ c κs. search needs)
-    (λ c κs. search needs)
-    finalize-requires
     (λ c κs. search needs)
     (λ c κs. search needs)
     (λ c κs. search needs)
@@ -63,7 +69,7 @@ execute-spec =
     (λ c. search needs)
     (λ c. search needs)
     (λ c. search needs)
-    (λ c. rw (c .before .before .before .before .before .before .before .match .keys3) (c .before .before .before .return-from .ensures))
+    (λ c. rw (c .before .before .before .before .before .before .before .before .match .keys3) (c .before .before .before .before .return-from .ensures))
     (λ c. search needs)
     (λ c. rw (c .before .before .before .match .keys4) (c .before .fresh .ensures _ _ _))
     (λ c. search needs)
@@ -72,14 +78,12 @@ execute-spec =
     (λ c. search needs)
     (λ c. search needs)
     (λ c. search needs)
-    (λ c. rw (c .before .before .before .before .before .before .before .match .keys6) (c .before .before .before .exit .ensures _))
-    (λ c. search needs)
-    (λ c. search needs)
-    (λ c. rw (c .before .before .before .before .before .match .keys7) (c .before .before .join .ensures _ _))
+    (λ c. rw (c .before .before .before .before .before .before .before .before .match .keys6) (c .before .before .before .before .exit .ensures _))
     (λ c. search needs)
     (λ c. search needs)
     (λ c. search needs)
-    (λ c. rw (c .before .before .before .before .before .match .keys8) (c .before .finalize .ensures _))
+    (λ c. rw (c .before .before .before .before .before .before .before .match .keys7) (c .before .before .before .join .ensures _))
+    (λ c. rw (c .before .match .keys8) (c .finalize .ensures _ _ _ _ _))
     (λ c. search needs)
     (λ c. rw (c .before .before .before .match .keys9) (c .before .newmutex .ensures _ _ _))
     (λ c. search needs)

@@ -1,54 +1,21 @@
 -- `endings::ends::finalize` meets its contract. Assumes nothing.
-use mathlib.Core.Path.{ap, sym, _∙_}
+use mathlib.Core.Path.{_∙_}
 use native.Mathlib.Omega.{arith}
 use borrow.Author.Needs.{needs}
-use borrow.Author.Tests.{not-false, not-true}
 use Rattle.machine.proofs.Equations.{carries, faults, finalize-is}
-use Rattle.cells.proofs.Names.{goes-on, passed, stops}
-use Rattle.cells.proofs.Tests.{read-back}
-use Rattle.threads.specs.Contract.{threadNamed}
+use Rattle.cells.proofs.Tests.{needs-less, needs-met}
 use Rattle.endings.proofs.ends.finalize.Statement.{statement}
 use Rattle.endings.proofs.ends.finalize.Tie as tie
 
-has-ended-requires : tie.Need-has-ended-requires
-has-ended-requires c κs = let there = passed _ _ _ _ _ _ _ (c .before .before .before .a-thread .ensures ∙ ap threadNamed (c .before .t .given .1)) in (omega (arith, c .before .before .before .before .before .before .pre .1 .0 .long), omega (arith, there .below, c .before .before .before .before .before .before .pre .1 .1 .1 .threads))
-
 returns : tie.Need-returns
-returns c n =
-    rw (c .stop2 .ensures)
-    (faults _ n _ _ 29 (finalize-is _ n _ ∙ goes-on _ _ _ _ _ _ _ _ (c .before .before .before .before .before .before .a-thread .ensures ∙ ap threadNamed (c .before .before .before .before .t .given .1)) ∙ rw (sym (c .before .before .has-ended .ensures) ∙ not-true _ (c .before .if1 .taken))))
-
-result-requires : tie.Need-result-requires
-result-requires c κs = let there = passed _ _ _ _ _ _ _ (c .before .before .before .before .before .a-thread .ensures ∙ ap threadNamed (c .before .before .before .t .given .1)) in omega (arith, there .below, c .before .before .before .before .before .before .before .before .pre .1 .1 .0, c .before .before .before .before .before .before .before .before .pre .1 .1 .1 .threads)
-
-sub-poke : tie.Need-sub-poke
-sub-poke c = let there = passed _ _ _ _ _ _ _ (c .before .before .before .before .before .before .before .a-thread .ensures ∙ ap threadNamed (c .before .before .before .before .before .t .given .1)) in omega (arith, there .enough)
+returns c size store n tables values = rw (c .stop .ensures) (faults size n _ _ 21 (finalize-is size n _ ∙ needs-less 1 _ _ (omega arith)))
 
 returns-2 : tie.Need-returns-2
-returns-2 c n = rw (c .stop .ensures) (faults _ n _ _ _ (finalize-is _ n _ ∙ stops _ _ _ _ _ _ _ _ (c .before .before .before .before .a-thread .ensures ∙ ap threadNamed (c .before .before .number .given .1))))
-
-returns-3 : tie.Need-returns-3
-returns-3 c n =
-    rw (c .advance .ensures, c .before .before .poke .ensures, read-back (c .before .before .before .before .result .ok) (c .before .before .before .before .result .ensures))
-    (carries _ n _ _ _ (finalize-is _ n _ ∙ goes-on _ _ _ _ _ _ _ _ (c .before .before .before .before .before .before .before .before .before .before .a-thread .ensures ∙ ap threadNamed (c .before .before .before .before .before .before .before .before .t .given .1)) ∙ rw (sym (c .before .before .before .before .before .before .has-ended .ensures) ∙ not-false _ (c .before .before .before .before .before .if1 .left))))
+returns-2 c size store n tables values = rw (c .advance .ensures) (carries size n _ _ _ (finalize-is size n _ ∙ needs-met 1 _ _ (omega arith)))
 
 pub finalize-spec : {M : Type 1} → statement M
-finalize-spec =
-    tie.close
-    (tie.spec
+finalize-spec = tie.close (tie.spec
     (λ c κs. search needs)
-    (λ c. search needs)
-    (λ c κs. search needs)
-    (λ c. search needs)
-    has-ended-requires
-    (λ c κs. search needs)
-    (λ c. search needs)
     returns
-    result-requires
-    sub-poke
     (λ c κs. search needs)
-    (λ c κs. search needs)
-    (λ c. search needs)
-    returns-2
-    (λ c. search needs)
-    returns-3)
+    returns-2)
