@@ -2,6 +2,7 @@
 
 mod asm;
 mod damage;
+mod joins;
 mod limits;
 mod numbers;
 mod program;
@@ -89,12 +90,12 @@ fn image(r: &mut Random, kind: Kind) -> Vec<u8> {
     }
 }
 
-/// A play; about a third of them are those with semaphores.
+/// A play; three of ten are those with semaphores, two of ten those about joins.
 fn scene(r: &mut Random) -> Code {
-    let play = if r.percent(35) {
-        r.weighted(&semaphores::SCENES)
-    } else {
-        r.weighted(&scenes::SCENES)
+    let play = match r.below(10) {
+        0..=2 => r.weighted(&semaphores::SCENES),
+        3 | 4 => r.weighted(&joins::SCENES),
+        _ => r.weighted(&scenes::SCENES),
     };
     play(r)
 }

@@ -143,9 +143,9 @@ pub struct Semaphore {
     pub waiters: VecDeque<usize>,
 }
 
-/// The paper's "Errors that look right", 1 to 5, and those that requests Two, Three and Four invite,
-/// 6 to 9, 10 to 13 and 14 to 21. A machine makes none of them unless it is told to; only the
-/// showing that the comparison can fail tells it to.
+/// The paper's "Errors that look right", 1 to 5, and those that requests Two, Three, Four and Six
+/// invite, 6 to 9, 10 to 13, 14 to 21 and 22 to 26. A machine makes none of them unless it is told
+/// to; only the showing that the comparison can fail tells it to.
 #[derive(Clone, Copy, PartialEq, Eq, Debug)]
 pub enum Mistake {
     /// 1. A condition's waiter is woken straight past its lock.
@@ -190,10 +190,20 @@ pub enum Mistake {
     UpSaturates,
     /// 21. A bad semaphore number gives fault 27.
     SemaphoreNotTold,
+    /// 22. The result is written to the cell below the waiter's top.
+    DeliveredBelowTop,
+    /// 23. The result is written to the ending thread's own stack, as high as the waiter's top.
+    DeliveredToItself,
+    /// 24. Waiters are woken without the result: their top is still the number.
+    WokenWithoutResult,
+    /// 25. A join of a thread that has ended leaves the number.
+    LateWithoutResult,
+    /// 26. Fault 31 is given after the result was written to those who wait for the thread.
+    DeliveredFirst,
 }
 
 impl Mistake {
-    pub const ALL: [Mistake; 21] = [
+    pub const ALL: [Mistake; 26] = [
         Mistake::WokenPastLock,
         Mistake::UnlockFrees,
         Mistake::SignalRemembered,
@@ -215,6 +225,11 @@ impl Mistake {
         Mistake::WokenToFront,
         Mistake::UpSaturates,
         Mistake::SemaphoreNotTold,
+        Mistake::DeliveredBelowTop,
+        Mistake::DeliveredToItself,
+        Mistake::WokenWithoutResult,
+        Mistake::LateWithoutResult,
+        Mistake::DeliveredFirst,
     ];
 }
 
@@ -516,18 +531,21 @@ impl Machine {
                 me.has(1)?;
                 let top = me.top();
                 let other = self.other_thread(top)?;
-                if self.threads[other].result.is_none() {
-                    self.threads[other].joiners.push_back(t);
-                    self.next();
+                match self.threads[other].result {
+                    Some(result) => {
+                        if self.mistake != Some(Mistake::LateWithoutResult) {
+                            self.threads[t].set_top(result);
+                        }
+                    }
+                    None => {
+                        // Top stays the number until the other one ends.
+                        self.threads[other].joiners.push_back(t);
+                        self.next();
+                    }
                 }
             }
-            Op::Finalize => {
-                me.has(1)?;
-                let top = me.top();
-                let other = self.other_thread(top)?;
-                let result = self.threads[other].result.ok_or(29)?;
-                self.threads[t].set_top(result);
-            }
+            // The result is there already: it needs its cell and does nothing.
+            Op::Finalize => me.has(1)?,
 
             // Mutexes.
             Op::Lock => {
@@ -640,7 +658,7 @@ impl Machine {
         Ok(())
     }
 
-    /// The thread that join or finalize names, or fault 33.
+    /// The thread that join names, or fault 33.
     fn other_thread(&self, value: i32) -> Result<usize, u8> {
         if self.mistake != Some(Mistake::ThreadAmongMutexes) {
             return thread_number(value, &self.threads);
@@ -678,17 +696,46 @@ impl Machine {
         }
     }
 
-    /// Ending: the result is kept, all who wait for the thread go to the ready tail in their
-    /// order, then Next. But a thread that owns a mutex doesn't end: that is fault 31.
+    /// Ending: the result is kept, all who wait for the thread get it and go to the ready tail in
+    /// their order, then Next. But a thread that owns a mutex doesn't end: that is fault 31, and
+    /// then nobody gets anything.
     fn end(&mut self, t: usize, result: i32) -> Result<(), u8> {
-        if self.mistake == Some(Mistake::JoinersWokenFirst) {
-            self.wake_joiners(t);
+        if let Err(fault) = owns_none(t, self.looked_at()) {
+            match self.mistake {
+                Some(Mistake::JoinersWokenFirst) => {
+                    let joiners = std::mem::take(&mut self.threads[t].joiners);
+                    self.ready.extend(joiners);
+                }
+                Some(Mistake::DeliveredFirst) => {
+                    for joiner in self.threads[t].joiners.clone() {
+                        self.deliver(t, result, joiner);
+                    }
+                }
+                _ => {}
+            }
+            return Err(fault);
         }
-        owns_none(t, self.looked_at())?;
         self.threads[t].result = Some(result);
-        self.wake_joiners(t);
+        while let Some(joiner) = self.threads[t].joiners.pop_front() {
+            self.deliver(t, result, joiner);
+            self.ready.push_back(joiner);
+        }
         self.next();
         Ok(())
+    }
+
+    /// The result of thread `t` is written to the top cell of one who waits for its end. There is
+    /// such a cell: join needs it, and nobody takes it away while the thread waits.
+    fn deliver(&mut self, t: usize, result: i32, joiner: usize) {
+        let top = self.threads[joiner].cells - 1;
+        match self.mistake {
+            // Where there is no cell below, nothing is written.
+            Some(Mistake::DeliveredBelowTop) if top == 0 => {}
+            Some(Mistake::DeliveredBelowTop) => self.threads[joiner].stack[top - 1] = result,
+            Some(Mistake::DeliveredToItself) => self.threads[t].stack[top] = result,
+            Some(Mistake::WokenWithoutResult) => {}
+            _ => self.threads[joiner].stack[top] = result,
+        }
     }
 
     /// The mutexes that are looked at when a thread ends: all, but for two of the mistakes.
@@ -699,13 +746,6 @@ impl Machine {
             _ => self.mutexes.len(),
         };
         &self.mutexes[..count]
-    }
-
-    /// All who wait for the thread's end go to the ready tail in their order.
-    fn wake_joiners(&mut self, t: usize) {
-        while let Some(joiner) = self.threads[t].joiners.pop_front() {
-            self.ready.push_back(joiner);
-        }
     }
 
     /// The mutex goes to its first waiter, who becomes ready, or to nobody.

@@ -36,7 +36,7 @@ second selftest [SEED [COUNT]]       each of the machine's errors is found
 
 SEED is a number of 64 bits. A frame is the length of an image or a text in 4 bytes, big-endian,
 then its bytes. A refused image or text has the line `refused NO PLACE`.
-E is a number from 1: 1 to 21 for the machine, 1 to 4 for listings, 1 to 7 for imports. The program
+E is a number from 1: 1 to 26 for the machine, 1 to 4 for listings, 1 to 7 for imports. The program
 makes this error, to show that a comparison finds it.
 ";
 

@@ -55,12 +55,18 @@ fn mentions(image: &[u8], mistake: Mistake) -> bool {
         Mistake::EndsOwning
         | Mistake::OnlyMutexZero
         | Mistake::JoinersWokenFirst
-        | Mistake::CallerReturnFaulted => &[Op::Lock],
+        | Mistake::CallerReturnFaulted
+        | Mistake::DeliveredFirst => &[Op::Lock],
         // Those that name a condition or a thread.
         Mistake::KindsSwapped | Mistake::KindsNotTold => {
-            &[Op::Join, Op::Finalize, Op::Wait, Op::Signal, Op::Broadcast]
+            &[Op::Join, Op::Wait, Op::Signal, Op::Broadcast]
         }
-        Mistake::ThreadAmongMutexes => &[Op::Join, Op::Finalize],
+        // Without a join nobody waits for a result, or comes late for it.
+        Mistake::ThreadAmongMutexes
+        | Mistake::DeliveredBelowTop
+        | Mistake::DeliveredToItself
+        | Mistake::WokenWithoutResult
+        | Mistake::LateWithoutResult => &[Op::Join],
         Mistake::DownWaitsAtZero => &[Op::Down],
         Mistake::NewsemaRoomFirst => &[Op::Newsema],
         Mistake::LastLeftAsleep
@@ -86,10 +92,14 @@ fn states(image: &[u8], mistake: Option<Mistake>) -> Vec<String> {
     lines
 }
 
-/// Can a runner's line show the mistake? Where `JoinersWokenFirst` matters the machine is faulted
-/// in the same place after the same steps: those woken never run, and the line has no queues.
+/// Can a runner's line show the mistake? Where one of these two matters the machine is faulted in
+/// the same place after the same steps: those woken or written to never run, and the line has
+/// neither queues nor cells.
 fn in_a_line(mistake: Mistake) -> bool {
-    mistake != Mistake::JoinersWokenFirst
+    !matches!(
+        mistake,
+        Mistake::JoinersWokenFirst | Mistake::DeliveredFirst
+    )
 }
 
 /// The whole self-test: the report, and whether all errors were found.

@@ -53,7 +53,10 @@ fn all_instructions_and_faults_are_reached() {
         carried_out.iter().all(|&reached| reached),
         "{carried_out:?}"
     );
-    assert!(faults[20..].iter().all(|&reached| reached), "{faults:?}");
+    // All but 29, which left the table.
+    for (number, &reached) in faults.iter().enumerate().skip(20) {
+        assert_eq!(reached, number != 29, "fault {number}");
+    }
     assert!(refusals[1..].iter().all(|&reached| reached), "{refusals:?}");
 }
 
@@ -153,7 +156,9 @@ fn named(machine: &Machine) -> Vec<String> {
     let (mutexes, conditions) = (machine.mutexes.len(), machine.conditions.len());
     let semaphores = machine.semaphores.len();
     let whats = match (next.op, &thread.stack[..thread.cells]) {
-        (Op::Join | Op::Finalize, &[.., t]) => {
+        // Finalize looks at no number, whatever it is.
+        (Op::Finalize, &[.., t]) => vec![format!("thread {}", place(t, threads))],
+        (Op::Join, &[.., t]) => {
             // A look into the mutexes' table would find another answer.
             let only = match (is_bad(t, threads), is_bad(t, mutexes)) {
                 (false, true) => "a thread's only",
@@ -228,8 +233,6 @@ fn each_number_is_met_on_both_sides() {
     for what in [
         "join: a thread's only",
         "join: a mutex's only",
-        "finalize: a thread's only",
-        "finalize: a mutex's only",
         "wait: both bad",
         "up: a semaphore's only",
         "up: a mutex's only",
@@ -405,6 +408,157 @@ fn a_woken_thread_ends_and_wakes_two() {
         .filter_map(|index| read(&card(SEED, index).1).ok())
         .filter(|card| woken_ends(&mut Machine::new(card), 2));
     assert!(found.count() >= 10);
+}
+
+/// Makes a step. If it is a join, a finalize, or an exit or return that ends the thread or is refused
+/// by 31: what it comes to. Who waits for an end has its number on top, until the end writes the
+/// result there, and nothing else.
+fn at_a_join(machine: &mut Machine) -> Vec<&'static str> {
+    let t = machine.last;
+    let before = machine.clone();
+    let me = &before.threads[t];
+    let Some(op) = before.code.get(me.pc).map(|next| next.op) else {
+        machine.step();
+        return Vec::new();
+    };
+    machine.step();
+    let top = me.stack[..me.cells].last().copied();
+    let all = &before.threads;
+    let thread = |number: i32| all.get(usize::try_from(number).ok()?);
+    let awaits = |t: usize| all.iter().any(|other| other.joiners.contains(&t));
+    let mut whats = Vec::new();
+    match (op, machine.fault, top) {
+        (Op::Join, 21, _) => whats.push("join: 21"),
+        (Op::Join, 33, _) => whats.push("join: 33"),
+        (Op::Join, 0, Some(number)) => {
+            let other = thread(number).expect("a thread");
+            let late = other.result.is_some();
+            whats.push(match (late, other.joiners.len()) {
+                (true, _) => "join: late",
+                (false, _) if number as usize == t => "join: waits for itself",
+                (false, 0) => "join: waits, the first",
+                (false, 1) => "join: waits, the second",
+                (false, 29) => "join: waits, the 30th",
+                (false, 30) => "join: waits, the 31st",
+                _ => "join: waits behind others",
+            });
+            whats.push(match (late, me.cells) {
+                (true, 1) => "join: late, one cell",
+                (true, 2..=127) => "join: late, others on the stack",
+                (true, _) => "join: late, 128 cells",
+                (false, 1) => "join: waits, one cell",
+                (false, 2..=127) => "join: waits, others on the stack",
+                (false, _) => "join: waits, 128 cells",
+            });
+            if awaits(number as usize) && number as usize != t {
+                whats.push("join: of one who waits for an end");
+            }
+            match before.code.get(me.pc + 1).map(|next| next.op) {
+                Some(Op::Finalize) => whats.push("join: finalize follows"),
+                _ => whats.push("join: no finalize follows"),
+            }
+        }
+        (Op::Finalize, 21, _) => whats.push("finalize: 21"),
+        (Op::Finalize, 0, Some(number)) => {
+            whats.push(match thread(number) {
+                None => "finalize: no thread's number",
+                Some(other) if other.result.is_none() => "finalize: of a thread not ended",
+                Some(_) => "finalize: of a thread that has ended",
+            });
+            // It changes nothing.
+            assert_eq!(machine.threads[t].stack, me.stack);
+        }
+        (Op::Exit | Op::Return, 31, _) => {
+            whats.push(match me.joiners.len() {
+                0 => "end: refused, nobody waits",
+                1 => "end: refused, one waits",
+                _ => "end: refused, several wait",
+            });
+            for (now, then) in machine.threads.iter().zip(all) {
+                assert_eq!(now.stack, then.stack);
+            }
+        }
+        (Op::Exit | Op::Return, 0, _) => {
+            if let Some(result) = machine.threads[t].result {
+                whats.push(match me.joiners.len() {
+                    0 => "end: nobody waits",
+                    1 => "end: delivers to one",
+                    2..=29 => "end: delivers to several",
+                    _ => "end: delivers to 30 or 31",
+                });
+                if result == i32::MIN && !me.joiners.is_empty() {
+                    whats.push("end: delivers the least number");
+                }
+                for &joiner in &me.joiners {
+                    let (then, now) = (&before.threads[joiner], &machine.threads[joiner]);
+                    let mut stack = then.stack;
+                    stack[then.cells - 1] = result;
+                    assert_eq!((now.cells, now.stack), (then.cells, stack));
+                }
+            }
+        }
+        _ => {}
+    }
+    for (other, thread) in machine.threads.iter().enumerate() {
+        for &joiner in &thread.joiners {
+            let waiting = &machine.threads[joiner];
+            let top = waiting.stack[..waiting.cells].last();
+            assert_eq!(top, Some(&(other as i32)), "{joiner} waits for {other}");
+        }
+    }
+    whats
+}
+
+#[test]
+fn results_are_delivered_in_all_ways() {
+    let mut counts = BTreeMap::new();
+    for index in 0..COUNT {
+        if let Ok(card) = read(&card(SEED, index).1) {
+            let mut machine = Machine::new(&card);
+            for _ in 0..2000 {
+                for what in at_a_join(&mut machine) {
+                    *counts.entry(what).or_insert(0) += 1;
+                }
+                if machine.state != State::Running {
+                    break;
+                }
+            }
+        }
+    }
+    let all = [
+        "end: delivers the least number",
+        "end: delivers to 30 or 31",
+        "end: delivers to one",
+        "end: delivers to several",
+        "end: nobody waits",
+        "end: refused, nobody waits",
+        "end: refused, one waits",
+        "end: refused, several wait",
+        "finalize: 21",
+        "finalize: no thread's number",
+        "finalize: of a thread not ended",
+        "finalize: of a thread that has ended",
+        "join: 21",
+        "join: 33",
+        "join: finalize follows",
+        "join: late",
+        "join: late, 128 cells",
+        "join: late, one cell",
+        "join: late, others on the stack",
+        "join: no finalize follows",
+        "join: of one who waits for an end",
+        "join: waits behind others",
+        "join: waits for itself",
+        "join: waits, 128 cells",
+        "join: waits, one cell",
+        "join: waits, others on the stack",
+        "join: waits, the 30th",
+        "join: waits, the 31st",
+        "join: waits, the first",
+        "join: waits, the second",
+    ];
+    assert!(counts.keys().eq(all.iter()), "{counts:#?}");
+    assert!(counts.values().all(|&count| count >= 3), "{counts:#?}");
 }
 
 #[test]

@@ -171,14 +171,14 @@ fn the_sessions_cards() {
 #[test]
 fn errors_have_their_numbers() {
     for (words, most) in [
-        (&["lines"][..], 21),
-        (&["trace", "9"], 21),
+        (&["lines"][..], 26),
+        (&["trace", "9"], 26),
         (&["listings"], 4),
         (&["imports"], 7),
         (&["retexts"], 0),
         (&["hex"], 0),
     ] {
-        for e in 0..=22 {
+        for e in 0..=27 {
             let number = e.to_string();
             let mut words = words.to_vec();
             words.extend(["--error", &number]);

@@ -410,7 +410,6 @@ fn fault_33() {
         let start = made(counts);
         for bad in none_of(threads) {
             faults(&format!("{start} {bad}"), "join", 33);
-            faults(&format!("{start} {bad}"), "finalize", 33);
         }
         // The last one made is good. If it isn't thread 0 itself, all others run and end before
         // thread 0 goes on: they are ready in the order of their numbers.
@@ -422,15 +421,32 @@ fn fault_33() {
             _ => format!("halted {} -", steps + others + 1),
         };
         assert_eq!(line(&format!("{joined}, halt, return")), expected);
-        // Finalize takes it only when it has ended.
-        faults(&format!("{start} loadc {others}"), "finalize", 29);
-        if others > 0 {
-            let ended = format!("{start} yield, loadc {others}, finalize");
-            let steps = length(&ended) + others + 1;
-            let text = format!("{ended}, halt, return");
-            assert_eq!(line(&text), format!("halted {steps} -"));
+    }
+}
+
+#[test]
+fn finalize_looks_at_no_number() {
+    // Good, bad, of a thread that has ended or hasn't: it is carried out, and 33 and 29 aren't given.
+    for counts @ (threads, ..) in MADE {
+        let start = made(counts);
+        let good = [0, threads - 1].map(|number| format!("loadc {number}"));
+        for number in none_of(threads).into_iter().chain(good) {
+            goes_on(&format!("{start} {number}, finalize"));
+            goes_on(&format!("{start} {number}, finalize, finalize"));
         }
     }
+    // Nothing but PC is another than before.
+    for before in ["loadc 7", MIN, "alloc 125", "pop, pop"] {
+        let mut m = machine(&format!("{before}, finalize, halt"));
+        m.run(length(before));
+        let mut same = m.clone();
+        assert!(m.step());
+        same.threads[0].pc += 1;
+        assert_eq!(format!("{m:?}"), format!("{same:?}"), "{before}");
+    }
+    // It needs its cell.
+    faults("3*pop", "finalize", 21);
+    faults("loadc 0, 4*pop", "finalize", 21);
 }
 
 #[test]
@@ -469,7 +485,6 @@ fn a_number_that_was_not_given_is_bad() {
     faults(&format!("{full} newcond"), "signal", 32);
     faults(&format!("{full} newcond"), "broadcast", 32);
     faults(&format!("{full} loadc 0, loadc 0, create"), "join", 33);
-    faults(&format!("{full} loadc 0, loadc 0, create"), "finalize", 33);
     faults(&format!("{full} newmutex, loadc 63"), "wait", 27);
     faults(&format!("{full} loadc 63, newcond"), "wait", 32);
     faults(&format!("{full} newmutex, newcond"), "wait", 32);
@@ -479,7 +494,7 @@ fn a_number_that_was_not_given_is_bad() {
     check(&[
         (
             "loadc 6, loadc 7, create, yield, join, exit, return",
-            "halted 7 1",
+            "halted 7 7",
         ),
         (
             "loadc 7, loadc 7, create, yield, join, finalize, exit, return",
@@ -512,9 +527,10 @@ fn another_thread_than_0_has_a_bad_number() {
             "loadc 4, loadc 0, create, yield, loadc 2, join",
             "fault 33 1 5 5",
         ),
+        // Finalize takes 2 as it takes any number, and the thread falls off the card.
         (
-            "loadc 4, loadc 0, create, yield, loadc 1, finalize",
-            "fault 29 1 5 5",
+            "loadc 4, loadc 0, create, yield, loadc 2, finalize",
+            "fault 20 1 6 6",
         ),
     ]);
 }
@@ -595,12 +611,13 @@ fn fault_28() {
 }
 
 #[test]
-fn fault_29() {
+fn fault_29_is_not_given() {
+    // The thread hasn't ended: finalize leaves its number, whoever it is.
     check(&[
-        ("loadc 0, finalize", "fault 29 0 1 1"),
+        ("loadc 0, finalize, exit", "halted 3 0"),
         (
-            "loadc 5, loadc 7, create, finalize, halt, exit",
-            "fault 29 0 3 3",
+            "loadc 5, loadc 7, create, finalize, exit, return",
+            "halted 6 1",
         ),
         (
             "loadc 6, loadc 7, create, join, finalize, exit, return",

@@ -56,12 +56,17 @@ fn thirty_two_and_thirty_three_threads() {
     assert_eq!(machine_after(&create(30)).threads[0].result, Some(31));
     assert_eq!(machine_after(&create(31)).threads[0].result, Some(-1));
     assert_eq!(machine_after(&create(31)).threads.len(), 32);
-    // Of the 32 the last is numbered 31. It hasn't run, so it hasn't ended.
-    let full = "loadc 0, loadc 0, create, pop, ".repeat(31);
+    // Of the 32 the last is numbered 31. It ends with 7, behind the 30 that were made before it.
+    let full = "loadc @-1, loadc 7, create, pop, ".repeat(31);
     check(&[
-        (&format!("{full} loadc 31, finalize"), "fault 29 0 125 125"),
-        (&format!("{full} loadc 32, finalize"), "fault 33 0 125 125"),
-        (&format!("{full} loadc 32, join"), "fault 33 0 125 125"),
+        (
+            &format!("{full} loadc 31, join, exit, return"),
+            "halted 158 7",
+        ),
+        (
+            &format!("{full} loadc 32, join, exit, return"),
+            "fault 33 0 125 125",
+        ),
     ]);
 }
 

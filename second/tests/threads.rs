@@ -103,8 +103,157 @@ fn join_wakes_in_order() {
     assert_eq!(m.threads[1].pc, 11);
     m.run(10);
     assert_eq!(m.state, State::Halted);
-    // A thread that joins itself waits for good.
-    check(&[("loadc 0, join", "stuck 2")]);
+}
+
+/// Threads 0, 2, 3 and 4 join thread 1, in this order: thread 0 with five cells, 2 with one, 3 with
+/// five, 4 with 128. Thread 1 yields once, so that all four wait when it ends with 9 by `end`, after
+/// 30 steps.
+fn four_joiners(end: &str) -> String {
+    format!(
+        "loadc 16, loadc 7, create, loadc 20, loadc 1, create, pop, \
+         loadc 24, loadc 1, create, pop, loadc 28, loadc 1, create, pop, jump 32, \
+         yield, loadc 9, storer -2, {end}, \
+         pop, pop, join, exit, \
+         loadc 5, loadr -2, join, exit, \
+         alloc 124, loadr -2, join, exit, \
+         loadc 1, join, sub, exit"
+    )
+}
+
+#[test]
+fn an_end_writes_the_result_to_each_waiter() {
+    for end in ["exit", "return"] {
+        let text = four_joiners(end);
+        let mut m = machine(&text);
+        assert_eq!(m.run(30), 30);
+        assert_eq!((m.running, m.threads[1].pc), (Some(1), 19));
+        assert_eq!(m.threads[1].joiners, [0, 2, 3, 4]);
+        assert!(m.ready.is_empty());
+        let before = m.clone();
+        // Who waits has the number on top.
+        let tops = [(0, 4), (2, 0), (3, 4), (4, 127)];
+        for (t, top) in tops {
+            assert_eq!(m.threads[t].cells, top + 1, "thread {t}");
+            assert_eq!(m.threads[t].stack[top], 1, "thread {t}");
+        }
+        assert!(m.step());
+        assert_eq!(m.threads[1].result, Some(9));
+        assert!(m.threads[1].joiners.is_empty());
+        assert_eq!((m.running, &m.ready), (Some(0), &[2, 3, 4].into()));
+        // The top cells are written, and no other; SP, FP and PC of a waiter stay as they are.
+        let mut same = before;
+        for (t, top) in tops {
+            same.threads[t].stack[top] = 9;
+        }
+        for t in 0..5 {
+            let (now, then) = (&m.threads[t], &same.threads[t]);
+            assert_eq!(now.stack, then.stack, "thread {t}");
+            if t != 1 {
+                assert_eq!((now.cells, now.fp), (then.cells, then.fp), "thread {t}");
+                assert_eq!(now.pc, then.pc, "thread {t}");
+            }
+        }
+        // Each goes on behind its join with the result: thread 0 has 1 - 9.
+        m.run(9);
+        assert_eq!(m.state, State::Halted);
+        let results: Vec<_> = m.threads.iter().map(|thread| thread.result).collect();
+        assert_eq!(results, [-8, 9, 9, 9, 9].map(Some));
+        assert_eq!(line(&text), "halted 36 -8", "{end}");
+    }
+}
+
+#[test]
+fn a_late_join_takes_the_result_at_once() {
+    // Thread 1 has ended with 7 when thread 0 joins it, with others on the stack and again.
+    let text = "loadc 7, loadc 7, create, yield, dup, join, halt, return";
+    let mut m = machine(text);
+    m.run(6);
+    let mut same = m.clone();
+    assert!(m.step());
+    // Only PC and the top cell are others, and thread 0 goes on.
+    same.threads[0].pc += 1;
+    same.threads[0].stack[4] = 7;
+    assert_eq!(format!("{m:?}"), format!("{same:?}"));
+    check(&[
+        (
+            "loadc 8, loadc 7, create, yield, dup, join, sub, exit, return",
+            "halted 9 -6",
+        ),
+        // What was delivered is a number as any other: a second join looks it up.
+        (
+            "loadc 7, loadc 7, create, yield, join, join, exit, return",
+            "fault 33 0 5 6",
+        ),
+        (
+            "loadc 7, loadc 1, create, yield, join, join, exit, return",
+            "halted 8 1",
+        ),
+        // A full stack, and one cell.
+        (
+            "loadc 6, loadc 7, create, alloc 123, yield, jump 7, return, \
+             loadr 1, join, exit",
+            "halted 10 7",
+        ),
+        (
+            "loadc 10, loadc 7, create, storer -2, 3*pop, yield, join, exit, return",
+            "halted 11 7",
+        ),
+    ]);
+}
+
+#[test]
+fn results_of_all_sizes_are_delivered() {
+    for (number, result) in [
+        ("loadc -8388608, loadc 256, mul", "-2147483648"),
+        (
+            "loadc 8388607, loadc 256, mul, loadc 255, add",
+            "2147483647",
+        ),
+        ("loadc 0", "0"),
+        ("loadc -1", "-1"),
+    ] {
+        // Waited for, and late.
+        for (entry, between) in [(5, ""), (6, "yield, ")] {
+            let text =
+                format!("loadc {entry}, loadc 0, create, {between} join, exit, {number}, exit");
+            let line = line(&text);
+            assert!(line.starts_with("halted "), "{text}: {line}");
+            assert!(line.ends_with(&format!(" {result}")), "{text}: {line}");
+        }
+    }
+}
+
+#[test]
+fn a_thread_that_joins_itself_waits_for_good() {
+    check(&[
+        ("loadc 0, join", "stuck 2"),
+        ("2*pop, join", "stuck 3"),
+        // Thread 1 joins itself, thread 0 ends: its result goes to nobody.
+        (
+            "loadc 5, loadc 1, create, loadc 3, exit, loadr -2, join",
+            "stuck 7",
+        ),
+        // Threads 0 and 1 join each other.
+        ("loadc 4, loadc 0, create, join, loadc 0, join", "stuck 6"),
+    ]);
+    let mut m = machine("loadc 0, join");
+    m.run(9);
+    assert_eq!(m.threads[0].joiners, [0]);
+    // Its top stays the number.
+    assert_eq!((m.threads[0].cells, m.threads[0].stack[3]), (4, 0));
+}
+
+#[test]
+fn a_chain_of_joins_passes_the_result_on() {
+    // Thread 0 joins 1, which joins 2, which joins 3; each adds 1 to what it gets.
+    let text = "loadc 8, loadc 2, create, loadc 8, loadc 3, create, jump 14, halt, \
+                loadr -2, join, loadc 1, add, exit, halt, \
+                loadc 22, loadc 0, create, loadc 1, join, loadc 1, add, exit, \
+                yield, loadc 40, exit";
+    let mut m = machine(text);
+    m.run(99);
+    let results: Vec<_> = m.threads.iter().map(|thread| thread.result).collect();
+    assert_eq!(results, [43, 42, 41, 40].map(Some));
 }
 
 /// Thread 1 is to end with mutex 0 its own; thread 0 wants the mutex after that.
@@ -364,6 +513,75 @@ fn joiners_are_not_woken_by_a_fault() {
 }
 
 #[test]
+fn a_fault_delivers_nothing() {
+    let text = awaited_owner("exit");
+    let card = read(&image(&text)).unwrap();
+    let mut m = Machine::with_mistake(&card, Some(Mistake::DeliveredFirst));
+    assert_eq!(m.run(99), 21);
+    assert_eq!((m.state, m.fault), (State::Faulted, 31));
+    // Threads 0 and 2 still wait, and have got the 9.
+    assert_eq!(m.threads[1].joiners, [0, 2]);
+    assert!(m.ready.is_empty());
+    assert_eq!((m.threads[0].stack[6], m.threads[2].stack[3]), (9, 9));
+    // The runner's line doesn't show it, the state line does, by the hash.
+    let wrong = runner_line(&image(&text), Some(Mistake::DeliveredFirst));
+    assert_eq!(wrong, line(&text));
+    let mut right = machine(&text);
+    right.run(99);
+    assert_eq!(
+        (right.threads[0].stack[6], right.threads[2].stack[3]),
+        (1, 1)
+    );
+    assert_ne!(state_line(&m), state_line(&right));
+    // Where nobody waits, or no mutex is owned, it is no mistake.
+    for text in ["newmutex, lock, exit", &four_joiners("exit")] {
+        let wrong = runner_line(&image(text), Some(Mistake::DeliveredFirst));
+        assert_eq!(wrong, line(text));
+    }
+}
+
+#[test]
+fn the_result_goes_to_the_top_of_the_waiter() {
+    // Thread 1 has 5 below the number 2 and waits for the end of thread 2, which ends with 7, or comes
+    // too late; then it ends with the difference, for which thread 0 waits.
+    let early = "loadc 8, loadc 0, create, loadc 16, loadc 7, create, jump 13, halt, \
+                 loadc 5, loadc 2, join, sub, exit, loadc 1, join, exit, return";
+    let late = "loadc 8, loadc 0, create, loadc 17, loadc 7, create, jump 14, halt, \
+                loadc 5, yield, loadc 2, join, sub, exit, loadc 1, join, exit, return";
+    assert_eq!(line(early), "halted 16 -2");
+    assert_eq!(line(late), "halted 17 -2");
+    for (mistake, early_line, late_line) in [
+        // Thread 0's top is still the number of thread 1.
+        (Mistake::DeliveredBelowTop, "halted 16 1", "halted 17 1"),
+        (Mistake::DeliveredToItself, "halted 16 1", "halted 17 1"),
+        (Mistake::WokenWithoutResult, "halted 16 1", "halted 17 1"),
+        // Thread 1 has 5 - 2.
+        (Mistake::LateWithoutResult, "halted 16 -2", "halted 17 3"),
+    ] {
+        let wrong = |text: &str| runner_line(&image(text), Some(mistake));
+        assert_eq!(wrong(early), early_line, "{mistake:?}");
+        assert_eq!(wrong(late), late_line, "{mistake:?}");
+    }
+    // Thread 1 where it waits: 5 - 7, or 7 - 2 where the 7 is below, or 5 - 2 where it isn't there.
+    for (mistake, result) in [
+        (None, -2),
+        (Some(Mistake::DeliveredBelowTop), 5),
+        (Some(Mistake::DeliveredToItself), 3),
+        (Some(Mistake::WokenWithoutResult), 3),
+        (Some(Mistake::LateWithoutResult), -2),
+    ] {
+        let card = read(&image(early)).unwrap();
+        let mut m = Machine::with_mistake(&card, mistake);
+        m.run(99);
+        assert_eq!(m.threads[1].result, Some(result), "{mistake:?}");
+        assert_eq!(m.threads[2].result, Some(7), "{mistake:?}");
+        // Thread 1's top was cell 4: only with one of the mistakes is that of thread 2 written.
+        let itself = mistake == Some(Mistake::DeliveredToItself);
+        assert_eq!(m.threads[2].stack[4], if itself { 7 } else { 0 });
+    }
+}
+
+#[test]
 fn a_return_to_a_caller_is_not_an_ending() {
     let text = "newmutex, lock, loadc 5, mark, loadc 7, call, halt, return";
     assert_eq!(line(text), "halted 8 -");
@@ -380,7 +598,6 @@ fn conditions_and_threads_are_told_apart() {
         ("loadc 0, signal", 32, 33, 27),
         ("loadc 0, broadcast", 32, 33, 27),
         ("loadc 1, join", 33, 32, 27),
-        ("loadc 1, finalize", 33, 32, 27),
     ] {
         let told = |mistake| runner_line(&image(text), mistake);
         let fault = |number: u8| format!("fault {number} 0 1 1");
@@ -392,7 +609,6 @@ fn conditions_and_threads_are_told_apart() {
     for mistake in [Mistake::KindsSwapped, Mistake::KindsNotTold] {
         let wrong = |text: &str| runner_line(&image(text), Some(mistake));
         assert_eq!(wrong("newmutex, unlock"), "fault 28 0 1 1");
-        assert_eq!(wrong("loadc 0, finalize"), "fault 29 0 1 1");
         assert_eq!(wrong("newmutex, lock, exit"), "fault 31 0 2 2");
     }
 }
@@ -419,14 +635,8 @@ fn a_thread_is_not_looked_for_among_the_mutexes() {
     for (text, right, wrong) in [
         // A thread and no mutex.
         ("loadc 0, join", "stuck 2", "fault 33 0 1 1"),
-        ("loadc 0, finalize", "fault 29 0 1 1", "fault 33 0 1 1"),
         // Two mutexes and one thread; thread 1 isn't made, and so it never ends.
         ("newmutex, newmutex, join", "fault 33 0 2 2", "stuck 3"),
-        (
-            "newmutex, newmutex, finalize",
-            "fault 33 0 2 2",
-            "fault 29 0 2 2",
-        ),
         // As many of the one as of the other.
         ("newmutex, join", "stuck 2", "stuck 2"),
         (

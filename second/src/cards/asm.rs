@@ -278,11 +278,19 @@ impl Asm {
         cell
     }
 
-    /// Waits for the thread in a cell and takes its result into the log.
-    pub fn collect(&mut self, cell: i32) {
-        self.get(cell);
+    /// Waits for the thread whose number is on top; its result takes the number's place. In some
+    /// places the finalize of the lectures stands behind, which does nothing.
+    pub fn join(&mut self, r: &mut Random) {
         self.op(Op::Join);
-        self.op(Op::Finalize);
+        if r.percent(40) {
+            self.op(Op::Finalize);
+        }
+    }
+
+    /// Waits for the thread in a cell and takes its result into the log.
+    pub fn collect(&mut self, r: &mut Random, cell: i32) {
+        self.get(cell);
+        self.join(r);
         self.log();
     }
 

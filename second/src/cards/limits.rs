@@ -1,8 +1,9 @@
-//! Cards near a limit: 32 threads and semaphores, 64 mutexes and conditions, a semaphore's largest
-//! and least count, the ends of 32 bits, cell 127, 4,096 instructions, the last shared cell; and
-//! cards that bring one instruction to its edges.
+//! Cards near a limit: 32 threads and semaphores, 31 who wait for one end, 64 mutexes and conditions,
+//! a semaphore's largest and least count, the ends of 32 bits, cell 127, 4,096 instructions, the last
+//! shared cell; and cards that bring one instruction to its edges.
 
 use super::asm::{Asm, Code, LOG};
+use super::joins;
 use super::random::Random;
 use super::soup;
 use crate::machine::{Op, LIMIT};
@@ -10,9 +11,10 @@ use crate::machine::{Op, LIMIT};
 type Limit = fn(&mut Random) -> Code;
 
 /// All of them, each as often as its weight says.
-pub const LIMITS: [(usize, Limit); 11] = [
+pub const LIMITS: [(usize, Limit); 12] = [
     (3, full_house),
     (2, many_threads),
+    (2, many_joiners),
     (2, many_objects),
     (4, many_semaphores),
     (3, high_counts),
@@ -123,8 +125,7 @@ fn finish_many(
         a.op(if r.percent(90) { Op::Leq } else { Op::Eq });
         a.if_top(|a| {
             a.opk(Op::Loadr, 2);
-            a.op(Op::Join);
-            a.op(Op::Finalize);
+            a.join(r);
             a.log();
         });
     });
@@ -139,6 +140,42 @@ fn finish_many(
     }
     a.opk(Op::Loadr, -2);
     a.end_thread(r);
+}
+
+/// Up to 30 threads join thread 1, or up to 31 thread 0, in as few steps as can be; then that one
+/// ends, and each has its result.
+fn many_joiners(r: &mut Random) -> Code {
+    let mut a = Asm::new();
+    let (worker, joiner) = (a.label(), a.label());
+    let awaited = r.range(0, 1);
+    if awaited == 1 {
+        a.fork(worker, 7);
+    }
+    for _ in 0..r.pick(&[28, 29, 30, 30, 31, 31]) {
+        a.to(Op::Loadc, joiner);
+        a.constant(awaited);
+        a.op(Op::Create);
+        a.op(Op::Pop);
+    }
+    a.op(Op::Yield);
+    if awaited == 1 {
+        for _ in 0..r.range(1, 2) {
+            a.constant(r.pick(&[1, 2, 29]));
+            a.join(r);
+            a.log();
+        }
+        a.end_with_log(r);
+    }
+    a.place(worker);
+    if r.percent(70) {
+        a.op(Op::Yield);
+    }
+    a.number(joins::result(r));
+    a.end_thread(r);
+    a.place(joiner);
+    let height = r.pick(&[1, 4, 5, 128]);
+    joins::joiner(&mut a, r, height);
+    a.finish()
 }
 
 /// Makes 60 to 70 mutexes and conditions and uses those at the ends.
@@ -238,7 +275,7 @@ fn high_counts(r: &mut Random) -> Code {
     };
     high_acts(&mut a, r, s);
     for cell in threads {
-        a.collect(cell);
+        a.collect(r, cell);
     }
     a.end_with_log(r);
     a.place(entry);
@@ -296,8 +333,7 @@ fn low_counts(r: &mut Random) -> Code {
     }
     if r.percent(70) {
         a.constant(r.range(1, waiters));
-        a.op(Op::Join);
-        a.op(Op::Finalize);
+        a.join(r);
         a.log();
     }
     a.end_with_log(r);
@@ -642,6 +678,9 @@ pub fn edge(r: &mut Random) -> Code {
         Op::Dup,
         Op::Neg,
         Op::Call,
+        Op::Join,
+        Op::Join,
+        Op::Finalize,
         Op::Wait,
         Op::Newsema,
         Op::Up,

@@ -1,5 +1,5 @@
 //! Cards that come to one instruction which names a thread, a mutex, a condition or a semaphore by a
-//! number.
+//! number; or to finalize, which looks at none.
 
 use super::asm::{Asm, Code};
 use super::random::Random;
@@ -57,6 +57,11 @@ pub fn numbers(r: &mut Random) -> Code {
     }
     a.place(point);
     let op = r.weighted(&NAMING);
+    // An exit tells what a join or a finalize has left on top.
+    let last = match op {
+        Op::Join | Op::Finalize if r.percent(50) => Op::Exit,
+        _ => Op::Halt,
+    };
     let mut numbers = match op {
         Op::Join | Op::Finalize => vec![beside(r, threads)],
         Op::Lock | Op::Unlock => vec![beside(r, mutexes)],
@@ -75,7 +80,7 @@ pub fn numbers(r: &mut Random) -> Code {
         a.number(number);
     }
     a.op(op);
-    a.op(Op::Halt);
+    a.op(last);
     a.place(end);
     a.op(Op::Return);
     a.finish()

@@ -120,7 +120,7 @@ impl Program<'_> {
             }
         }
         for cell in self.threads.clone() {
-            self.a.collect(cell);
+            self.a.collect(self.r, cell);
         }
         self.a.end_with_log(self.r);
 
@@ -282,7 +282,7 @@ impl Program<'_> {
                     self.a.op(Op::Less);
                     self.a.to(Op::Jumpz, skip);
                 }
-                self.a.collect(cell);
+                self.a.collect(self.r, cell);
                 self.a.place(skip);
             }
             93..=94 => {

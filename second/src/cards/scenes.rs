@@ -49,7 +49,7 @@ fn contention(r: &mut Random) -> Code {
         }
     }
     for cell in threads {
-        a.collect(cell);
+        a.collect(r, cell);
     }
     a.end_with_log(r);
     for entry in entries {
@@ -95,7 +95,7 @@ fn buffer(r: &mut Random) -> Code {
         a.yields(r, 1);
     }
     for cell in threads {
-        a.collect(cell);
+        a.collect(r, cell);
     }
     a.end_with_log(r);
 
@@ -184,7 +184,7 @@ fn barrier(r: &mut Random) -> Code {
         a.yields(r, 1);
     }
     for cell in threads {
-        a.collect(cell);
+        a.collect(r, cell);
     }
     a.end_with_log(r);
     a.place(entry);
@@ -246,7 +246,7 @@ fn saver(r: &mut Random) -> Code {
         a.unlock(m);
     }
     for cell in threads {
-        a.collect(cell);
+        a.collect(r, cell);
     }
     a.end_with_log(r);
 
@@ -328,7 +328,7 @@ fn early_signal(r: &mut Random) -> Code {
         a.signal(c);
     }
     for cell in threads {
-        a.collect(cell);
+        a.collect(r, cell);
     }
     a.end_with_log(r);
     a.place(waiter);
@@ -376,7 +376,7 @@ fn line_up(r: &mut Random) -> Code {
         a.broadcast(c);
     }
     for cell in threads {
-        a.collect(cell);
+        a.collect(r, cell);
     }
     a.end_with_log(r);
     a.place(late);
@@ -407,10 +407,10 @@ fn joiners(r: &mut Random) -> Code {
         a.yields(r, 1);
     }
     if r.percent(70) {
-        a.collect(target);
+        a.collect(r, target);
     }
     for cell in threads {
-        a.collect(cell);
+        a.collect(r, cell);
     }
     a.end_with_log(r);
     a.place(worker);
@@ -422,8 +422,7 @@ fn joiners(r: &mut Random) -> Code {
     a.yields(r, 2);
     a.log_local(-2);
     a.opk(Op::Loadr, -2);
-    a.op(Op::Join);
-    a.op(Op::Finalize);
+    a.join(r);
     a.op(Op::Dup);
     a.log();
     a.constant(1);
@@ -452,7 +451,7 @@ fn philosophers(r: &mut Random) -> Code {
         a.yields(r, 1);
     }
     for cell in threads {
-        a.collect(cell);
+        a.collect(r, cell);
     }
     a.end_with_log(r);
     a.place(entry);
@@ -514,7 +513,7 @@ fn nested(r: &mut Random) -> Code {
         a.yields(r, 1);
     }
     for cell in threads {
-        a.collect(cell);
+        a.collect(r, cell);
     }
     a.end_with_log(r);
 
@@ -602,7 +601,7 @@ fn endings(r: &mut Random) -> Code {
     a.broadcast(c);
     if r.percent(60) {
         for cell in threads {
-            a.collect(cell);
+            a.collect(r, cell);
         }
     }
     a.end_with_log(r);
@@ -659,8 +658,7 @@ fn endings(r: &mut Random) -> Code {
 
     a.place(watch);
     a.opk(Op::Loadr, -2);
-    a.op(Op::Join);
-    a.op(Op::Finalize);
+    a.join(r);
     a.op(Op::Dup);
     a.log();
     a.end_thread(r);
@@ -696,7 +694,7 @@ fn lawless(r: &mut Random) -> Code {
     }
     lawless_acts(&mut a, r, &objects);
     for cell in threads {
-        a.collect(cell);
+        a.collect(r, cell);
     }
     a.end_with_log(r);
     for entry in entries {

@@ -202,7 +202,7 @@ fn guard(r: &mut Random) -> Code {
         way.up(&mut a, s);
     }
     for cell in threads {
-        a.collect(cell);
+        a.collect(r, cell);
     }
     a.end_with_log(r);
     for entry in entries {
@@ -252,7 +252,7 @@ fn bounded_buffer(r: &mut Random) -> Code {
         a.yields(r, 1);
     }
     for cell in threads {
-        a.collect(cell);
+        a.collect(r, cell);
     }
     a.end_with_log(r);
 
@@ -341,7 +341,7 @@ fn rendezvous(r: &mut Random) -> Code {
         a.yields(r, 2);
     }
     for cell in threads {
-        a.collect(cell);
+        a.collect(r, cell);
     }
     a.end_with_log(r);
     let rounds = r.range(1, 4);
@@ -400,7 +400,7 @@ fn waiting_line(r: &mut Random) -> Code {
         a.yields(r, 1);
     }
     for cell in threads {
-        a.collect(cell);
+        a.collect(r, cell);
     }
     a.end_with_log(r);
     a.place(late);
@@ -445,7 +445,7 @@ fn relay(r: &mut Random) -> Code {
         a.log_local(1);
     });
     for cell in threads {
-        a.collect(cell);
+        a.collect(r, cell);
     }
     a.end_with_log(r);
     // The semaphores' cells follow each other: the argument says which is the thread's own, and the
@@ -507,7 +507,7 @@ fn woken_and_joined(r: &mut Random) -> Code {
     }
     if r.percent(70) {
         for cell in threads {
-            a.collect(cell);
+            a.collect(r, cell);
         }
     } else {
         a.yields(r, 6);
@@ -525,8 +525,7 @@ fn woken_and_joined(r: &mut Random) -> Code {
     a.opk(Op::Loadr, -2);
     a.constant(10);
     a.op(Op::Mod);
-    a.op(Op::Join);
-    a.op(Op::Finalize);
+    a.join(r);
     a.op(Op::Dup);
     a.log();
     a.log_local(-2);
@@ -558,7 +557,7 @@ fn lectures(r: &mut Random) -> Code {
         }
         if !together {
             for cell in threads.drain(..) {
-                a.collect(cell);
+                a.collect(r, cell);
             }
             a.get(LOG);
             a.set(log);
@@ -567,7 +566,7 @@ fn lectures(r: &mut Random) -> Code {
         parts.push((way, free, filled, giver, taker));
     }
     for cell in threads {
-        a.collect(cell);
+        a.collect(r, cell);
     }
     for &log in &logs {
         a.get(log);
