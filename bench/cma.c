@@ -110,6 +110,15 @@ static int new_thread(struct machine *m, int pc, int32_t argument)
     return t;
 }
 
+/* A thread's result goes to the top cell of each who waits for its end; join needed that cell. */
+static void deliver(struct machine *m, const struct queue *joiners, int32_t result)
+{
+    int t;
+
+    for (t = joiners->head; t != NONE; t = m->threads[t].next)
+        stack_of(m, t)[m->threads[t].sp] = result;
+}
+
 /* The mutex goes to its first waiter, who becomes ready, or to nobody. */
 static void unlock(struct machine *m, struct mutex *mutex)
 {
@@ -471,13 +480,10 @@ int64_t cma_run(const uint8_t *image, size_t len, uint64_t steps, struct engine_
                 enqueue(m, &m->threads[s[sp]].joiners, t);
                 goto leave;
             }
-            break;
-        case OP_FINALIZE:
-            NEED(1);
-            THREAD(s[sp]);
-            if (!m->threads[s[sp]].ended)
-                FAULT(29);
             s[sp] = m->threads[s[sp]].result;
+            break;
+        case OP_FINALIZE: /* the result is there already */
+            NEED(1);
             break;
 
         case OP_LOCK: {
@@ -553,6 +559,7 @@ int64_t cma_run(const uint8_t *image, size_t len, uint64_t steps, struct engine_
             m->threads[t].ended = 1;
             m->threads[t].result = value;
             m->live--;
+            deliver(m, &m->threads[t].joiners, value);
             append(m, &m->ready, &m->threads[t].joiners);
             goto next;
 
