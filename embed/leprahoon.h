@@ -6,7 +6,12 @@
  * A length may be 0; the pointer must not be null even then.
  *
  * The library is for x86-64 Linux. It uses memcpy and memset, no other function, no heap and no global memory. leprahoon_line needs
- * about 40 KiB of stack, leprahoon_import about 20 KiB, the others under 4 KiB. */
+ * about 40 KiB of stack, leprahoon_import about 20 KiB, the others under 4 KiB.
+ *
+ * Change request Six moved no number, size or place of this header, so a program compiled before it only has to be linked again. What
+ * differs is what a card does: join leaves the awaited thread's result on top, and finalize does nothing, so a program that reads
+ * results, from the values below or from a stack, needs no finalize in its card. Fault 29 is no longer given; memory kept from a
+ * machine that was faulted with it is refused with 7. */
 #ifndef LEPRAHOON_H
 #define LEPRAHOON_H
 
@@ -48,7 +53,7 @@ enum {
     LEPRAHOON_HALTED,
     LEPRAHOON_RUNNING,
     LEPRAHOON_STUCK,
-    LEPRAHOON_FAULTED,    /* report[1] the fault's number, 20 to 34 (docs/NUMBERS.md), report[2] the PC */
+    LEPRAHOON_FAULTED,    /* report[1] the fault's number, 20 to 34 without 29 (docs/NUMBERS.md), report[2] the PC */
     LEPRAHOON_REFUSED     /* report[1] the number, 1 to 7, report[2] the place; nothing was altered but the report (and, by set_up, the
                              registers, which are then all 0) */
 };
@@ -73,7 +78,7 @@ enum {
     LEPRAHOON_AT_MUTEX = 4,      /* plus the mutex's number */
     LEPRAHOON_AT_CONDITION = 68, /* plus the condition's number */
     LEPRAHOON_AT_SEMAPHORE = 132, /* plus the semaphore's number */
-    LEPRAHOON_AT_END = 164       /* plus the number of the awaited thread */
+    LEPRAHOON_AT_END = 164       /* plus the number of the awaited thread, whose end writes its result to the waiter's top cell */
 };
 
 /* The values: where the counts of the semaphores begin. */
