@@ -242,22 +242,13 @@ module _ (size : ℕ) (s : State) (book : Book) (y : Runs size s book) (v : ℤ)
       record { below = below; at = e; some = p .has-cell runner e; few = p .kept (omega (arith, e)) .cells-fit })
       (λ far. absurd (omega (arith, no-waiter t far)))
 
+  -- .. and doesn't run
+  not-runner : (t : ℕ) → placeOf (s .tables) t ≡ atEnd size runner → t ≢ runner
+  not-runner t at e = omega (arith, at, stands .runs, ap (placeOf (s .tables)) e)
+
   -- its top is a cell of the store
   top-stored : (t : ℕ) → Waiter-of t → savedTop size (s .tables) t < length (s .store)
   top-stored t w = omega (arith, y .steady .stored, w .below, w .some, w .few)
-
-  -- what is in the store when the result was delivered
-  finished-store :
-      ((t : ℕ) → t < size → placeOf (s .tables) t ≡ atEnd size runner → getD (finished size s v .store) (savedTop size (s .tables) t) (pos 0) ≡ v)
-      × ((a : ℕ) → ((t : ℕ) → t < size → placeOf (s .tables) t ≡ atEnd size runner → a ≢ savedTop size (s .tables) t) →
-      getD (finished size s v .store) a (pos 0) ≡ getD (s .store) a (pos 0))
-      × (length (finished size s v .store) ≡ length (s .store))
-  unfolding finished
-  finished-store = (
-    λ t h at. let c = is-waiter t h at in delivered-here size (s .tables) v waiters (s .store) t c (top-stored t (a-waiter t c)),
-    λ a away. delivered-other size (s .tables) v waiters (s .store) a (λ w c. let who = a-waiter w c in away w (who .below) (who .at)),
-    delivered-length size (s .tables) v waiters (s .store),
-  )
 
   -- those who waited are ready behind the others
   finished-queue : queue (finished size s v .tables) ready ≡ queue (s .tables) ready ++ waiters
@@ -278,17 +269,6 @@ module _ (size : ℕ) (s : State) (book : Book) (y : Runs size s book) (v : ℤ)
   finished-once t h =
       let q : ℕ = atEnd size runner in
       sent-count (wakeAll (s .tables) q) runner ended t ∙ once (wakes-all (y .steady .both) q (omega arith) (aside-end runner) .0) t h
-
-  pub ends-ending : Ending size s (ends size s v) runner v
-  ends-ending =
-      let f = finished-store in
-      let same = next-store size (finished size s v) in
-      record {
-        received = λ t h at. rw same (f .0 t h at);
-        no-other = λ a away. rw same (f .1 a away);
-        as-long = ap length same ∙ f .2;
-        in-order = next-takes size (finished size s v) finished-lined finished-once ∙ finished-queue;
-      }
 
   -- where the threads are afterwards
   at-end : placeOf (finished size s v .tables) runner ≡ ended
@@ -319,6 +299,36 @@ module _ (size : ℕ) (s : State) (book : Book) (y : Runs size s book) (v : ℤ)
   was-top : (t : ℕ) → t ≢ runner → topOf size s t ≡ getD (s .store) (savedTop size (s .tables) t) (pos 0)
   was-top t far = rw (ne-eqb t runner far)
 
+  -- a waiter has the result on top then
+  result-there : (t : ℕ) → t < size → placeOf (s .tables) t ≡ atEnd size runner → topOf size (finished size s v) t ≡ v
+  result-there t h at =
+      let c = is-waiter t h at in
+      same-top t h (not-runner t at) ∙ delivered-here size (s .tables) v waiters (s .store) t c (top-stored t (a-waiter t c))
+
+  pub ends-ending : Ending size s (ends size s v) runner v
+  ends-ending =
+      let same = next-store size (finished size s v) in
+      record {
+        received =
+            λ t h at.
+            next-apart .tops t h (λ e. omega (arith, e))
+            (rw (at-waiter t h (not-runner t at) at) (record { least = omega arith; most = omega arith }))
+            ∙ result-there t h at;
+        no-other =
+            λ a away.
+            rw (same, finished-store)
+            (delivered-other size (s .tables) v waiters (s .store) a
+            (λ w c. let who = a-waiter w c in rw (ne-eqb w runner (not-runner w (who .at))) at (away w (who .below) (who .at))));
+        as-long = ap length (same ∙ finished-store) ∙ delivered-length size (s .tables) v waiters (s .store);
+        in-order = next-takes size (finished size s v) finished-lined finished-once ∙ finished-queue;
+      }
+    where
+      next-apart : Apart size size (finished size s v) (ends size s v)
+      next-apart = apart-next size (finished size s v) finished-lined (unfold finished in refl)
+
+      finished-store : finished size s v .store ≡ delivered size (s .tables) v waiters (s .store)
+      finished-store = unfold finished in refl
+
   module _ (slate : Slate) (told : Told size s slate) where
     abbrev told-end : Slate
     told-end = noted slate (entry runner (event.ends v))
@@ -336,10 +346,8 @@ module _ (size : ℕ) (s : State) (book : Book) (y : Runs size s book) (v : ℤ)
         same-or-not w runner
         (λ is.
         let at : placeOf (s .tables) t ≡ atEnd size runner = rw is at p in
-        let c = is-waiter t h at in
-        let here = delivered-here size (s .tables) v waiters (s .store) t c (top-stored t (a-waiter t c)) in
         got (rw (at-waiter t h far at) (record { least = omega arith; most = omega arith }))
-        (rw is (mine ∙ ap (λ (x : ℤ). x ∷ []) (sym (same-top t h far ∙ here)))))
+        (rw is (mine ∙ ap (λ (x : ℤ). x ∷ []) (sym (result-there t h at)))))
         (λ other. waiting (at-other t far (λ e. other (omega (arith, e, p))) ∙ p))
     hears t w h far (got awake is) =
         let away : placeOf (s .tables) t ≢ atEnd size runner = λ e. omega (arith, awake .most, e) in

@@ -15,7 +15,7 @@ use Rattle.machine.specs.Fair.{runnerOf}
 use Rattle.machine.specs.Order.{entryAt}
 use Rattle.machine.specs.Played.{AfterCalls, Call, InPaperBox, played}
 use Rattle.machine.specs.Size.{full, stackAt}
-use Rattle.machine.specs.State.{State, savedTop}
+use Rattle.machine.specs.State.{State}
 use Rattle.machine.specs.Step.{step}
 use Rattle.machine.specs.Tables.{atEnd, ended, placeOf, queue, ready}
 
@@ -34,9 +34,12 @@ pub record Ended (trace : List Entry) (u i : ℕ) (v : ℤ) : Type 0 where
 abbrev pub depthOf : State → ℕ → ℕ
 depthOf s t = cond (eqb t (s .regs .thread)) (s .regs .cells) (getD (s .tables .depths) t 0)
 
--- the top cell of a thread's own stack
+-- the top cell of a thread's own stack: where it is in the store, and what it holds
+abbrev pub topAt : ℕ → State → ℕ → ℕ
+topAt size s t = stackAt size t (depthOf s t - 1)
+
 abbrev pub topOf : ℕ → State → ℕ → ℤ
-topOf size s t = getD (s .store) (stackAt size t (depthOf s t - 1)) (pos 0)
+topOf size s t = getD (s .store) (topAt size s t) (pos 0)
 
 -- a result was delivered: the awaited thread has ended, and what it ended with is on top of the other's own stack
 pub record Delivered (size : ℕ) (s : State) (trace : List Entry) (t u : ℕ) : Type 0 where
@@ -50,13 +53,13 @@ pub record Awaiting (size : ℕ) (s : State) (trace : List Entry) (t u : ℕ) : 
   pub queued : placeOf (s .tables) t ≡ atEnd size u
   pub not-ended : (i : ℕ) (v : ℤ) → ¬ Ended trace u i v
 
--- what an end leaves: the result in the top cell of each who waited for it, and every other cell as it was; and those
--- who waited at the ready tail, in their order, with the first of all who are ready running (Next)
+-- what an end leaves: the result on top of the stack of each who waited for it, and every other cell as it was; and
+-- those who waited at the ready tail, in their order, with the first of all who are ready running (Next)
 pub record Ending (size : ℕ) (before after : State) (u : ℕ) (v : ℤ) : Type 0 where
   pub received : (t : ℕ) → t < size → placeOf (before .tables) t ≡ atEnd size u →
-      getD (after .store) (savedTop size (before .tables) t) (pos 0) ≡ v
+      topOf size after t ≡ v
   pub no-other : (a : ℕ) →
-      ((t : ℕ) → t < size → placeOf (before .tables) t ≡ atEnd size u → a ≢ savedTop size (before .tables) t) →
+      ((t : ℕ) → t < size → placeOf (before .tables) t ≡ atEnd size u → a ≢ topAt size before t) →
       getD (after .store) a (pos 0) ≡ getD (before .store) a (pos 0)
   pub as-long : length (after .store) ≡ length (before .store)
   pub in-order : runnerOf size after ++ queue (after .tables) ready

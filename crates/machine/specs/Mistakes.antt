@@ -1,7 +1,7 @@
 -- "Errors that look right": for each of the five a small card on which it would show, and what change requests Two,
--- Three, Four and Six tell apart. One table, of the same kind as the paper's sessions, in a box of three threads: none of these
--- cards makes more, and a small box computes sooner. Where an order is at stake, each thread ends with how many came
--- before it, which shared cell 0 counts. The proof is in proofs/Sessions.antt.
+-- Three, Four and Six tell apart. One table, of the same kind as the paper's sessions, in a box of three threads: none
+-- of these cards makes more, and a small box computes sooner. Where an order is at stake, each thread ends with how
+-- many came before it, which shared cell 0 counts. The proof is in proofs/Sessions.antt.
 use Prim.Native.Nat.{ℕ}
 use mathlib.Core.List.{List, [], _∷_, _++_}
 use lib.IntN.{pos, negsuc}
