@@ -116,7 +116,8 @@ places-woken {size} (t ∷ rest) a lined all =
     let mine = all t (rw (count-cons t t rest, one-if-same t) (omega arith)) in
     let inside : t < length (a .places) = rw (lined .long) (mine .0) in
     places-then
-    (places-sent t ready inside (λ e. omega (arith, e)) (mine .1 .not-ended) (λ far. mine .1 .no-end) (λ far i. record { least = omega arith; most = omega arith }))
+    (places-sent t ready inside (λ e. omega (arith, e)) (mine .1 .not-ended) (λ far. mine .1 .no-end)
+    (λ far i. record { least = omega arith; most = omega arith }))
     (places-woken rest (sent a t ready) (lined-sent lined t ready)
     (λ u h.
     let was = all u (rw (count-cons u t rest) (omega arith)) in (
@@ -148,7 +149,8 @@ module _ {size : ℕ} {a : Tables} (lined : Lined size a) where
       by-queue (t ∷ rest) e =
           let at = first-at a q t rest e in
           rw (first-waiter a q t rest e)
-          (places-sent t ready (rw (lined .long) (head q t rest e)) (λ k. omega (arith, k)) (rw at (able .not-ended)) (λ far. rw at (able .no-end))
+          (places-sent t ready (rw (lined .long) (head q t rest e)) (λ k. omega (arith, k)) (rw at (able .not-ended))
+          (λ far. rw at (able .no-end))
           (λ far i. record { least = omega arith; most = omega arith }))
 
   -- a mutex is given on, or free
@@ -158,10 +160,12 @@ module _ {size : ℕ} {a : Tables} (lined : Lined size a) where
       by-queue : (l : List ℕ) → queue a (atMutex m) ≡ l → Places size size a (unlocked size a m)
       by-queue [] e = rw (first-nobody a (atMutex m) e) (places-same (owned-places a m size))
       by-queue (t ∷ rest) e =
-          let at : placeOf (owned a m t) t ≡ atMutex m = ap (λ (l : List ℕ). getD l t 0) (owned-places a m t) ∙ first-at a (atMutex m) t rest e in
+          let at : placeOf (owned a m t) t ≡ atMutex m =
+          ap (λ (l : List ℕ). getD l t 0) (owned-places a m t) ∙ first-at a (atMutex m) t rest e in
           rw (first-waiter a (atMutex m) t rest e)
           (places-then (places-same (owned-places a m t))
-          (places-sent t ready (rw (owned-places a m t, lined .long) (head (atMutex m) t rest e)) (λ k. omega (arith, k)) (λ k. omega (arith, at, k)) (λ far w k. omega (arith, at, k))
+          (places-sent t ready (rw (owned-places a m t, lined .long) (head (atMutex m) t rest e)) (λ k. omega (arith, k))
+          (λ k. omega (arith, at, k)) (λ far w k. omega (arith, at, k))
           (λ far i. record { least = omega arith; most = omega arith })))
 
   pub lined-given : (m : ℕ) → Lined size (unlocked size a m)
@@ -224,7 +228,9 @@ apart-tables size s tables places depths =
     record {
       places = places;
       results = λ t h. refl;
-      tops = λ t h far i. top-same size s (withTables s tables) t refl (ap (λ (l : List ℕ). cond (eqb t (s .regs .thread)) (s .regs .cells) (getD l t 0)) depths);
+      tops =
+          λ t h far i. top-same size s (withTables s tables) t refl
+          (ap (λ (l : List ℕ). cond (eqb t (s .regs .thread)) (s .regs .cells) (getD l t 0)) depths);
     }
 
 -- Next, where none runs
@@ -250,7 +256,8 @@ apart-next size s lined none = by-queue (queue (s .tables) ready) refl
         rw (first-waiter (s .tables) ready w rest e)
         (record {
           places =
-              places-sent w active (rw (lined .long) below) (λ k. omega (arith, k)) (λ k. omega (arith, at, k)) (λ far u k. omega (arith, at, k))
+              places-sent w active (rw (lined .long) below) (λ k. omega (arith, k)) (λ k. omega (arith, at, k))
+              (λ far u k. omega (arith, at, k))
               (λ far i. record { least = omega arith; most = omega arith });
           results = λ t h. refl;
           tops =
@@ -313,7 +320,8 @@ module _ (size : ℕ) (s : State) (y : Standing size (s .tables) (s .regs .threa
   -- it touches the store, the registers and semaphores' counts alone
   pub apart-cells : (store : List ℤ) (regs : Registers) → regs .thread ≡ runner → Stacks store →
       Apart size runner s (record { store = store; tables = s .tables; values = s .values; regs = regs })
-  apart-cells store regs same stacks = apart-on store (s .tables) (s .values) regs same (places-same refl) (λ t h far i. refl) (λ t h. refl) stacks
+  apart-cells store regs same stacks =
+      apart-on store (s .tables) (s .values) regs same (places-same refl) (λ t h far i. refl) (λ t h. refl) stacks
 
   -- a cell that is in no other stack is written
   pub stacks-set : (a : ℕ) (v : ℤ) → ((t i : ℕ) → t < size → t ≢ runner → i < 128 → stackAt size t i ≢ a) → Stacks (set (s .store) a v)
@@ -340,7 +348,8 @@ module _ (size : ℕ) (s : State) (y : Standing size (s .tables) (s .regs .threa
       record {
         places =
             places-then (places-same same)
-            (places-sent runner p (rw (same, y .lined .long) (y .below)) goes (λ k. omega (arith, at, k)) (λ far. absurd (far refl)) (λ far. absurd (far refl)));
+            (places-sent runner p (rw (same, y .lined .long) (y .below)) goes (λ k. omega (arith, at, k))
+            (λ far. absurd (far refl)) (λ far. absurd (far refl)));
         results = λ t h. refl;
         tops =
             λ t h far i.
@@ -379,9 +388,12 @@ module _ (size : ℕ) (s : State) (y : Standing size (s .tables) (s .regs .threa
       outside zero l from a away = refl
       outside (suc k) l from a away =
           ⊎-elim
-          (λ less. outside k (set l from (pos 0)) (suc from) a (inl (omega arith)) ∙ getD-set-other l from a (pos 0) (pos 0) (λ e. omega (arith, e)))
-          (λ more. outside k (set l from (pos 0)) (suc from) a (inr (omega arith)) ∙ getD-set-other l from a (pos 0) (pos 0) (λ e. omega (arith, e)))
+          (λ less. outside k (set l from (pos 0)) (suc from) a (inl (omega arith)) ∙ getD-set-other l from a (pos 0) (pos 0)
+          (λ e. omega (arith, e)))
+          (λ more. outside k (set l from (pos 0)) (suc from) a (inr (omega arith)) ∙ getD-set-other l from a (pos 0) (pos 0)
+          (λ e. omega (arith, e)))
           away
 
-      beside : (t i : ℕ) → t ≢ runner → i < 128 → (stackAt size t i < stackAt size runner j) ⊎ (stackAt size runner j + k ≤ stackAt size t i)
+      beside : (t i : ℕ) → t ≢ runner → i < 128 →
+          (stackAt size t i < stackAt size runner j) ⊎ (stackAt size runner j + k ≤ stackAt size t i)
       beside t i far low = less-or-not t runner (λ less. inl (omega arith)) (λ more. inr (omega arith))

@@ -66,7 +66,8 @@ module _ (size : ℕ) (words : List ℕ) (card : Card words) where
       (λ k.
       let y = onward-runs size words card s book r e (ltb-true _ _ k) in
       let i : Instruction = decoded (getD words (s .regs .pc) 0) in
-      rw k (outcome-told s book slate y told i (exec size (length words) (onward s) i) (effect size (length words) (onward s) book y (card .most) i)))
+      rw k (outcome-told s book slate y told i (exec size (length words) (onward s) i)
+      (effect size (length words) (onward s) book y (card .most) i)))
       (λ k. rw k (unfold slateOf in marks told _ refl refl))
 
   step-told : (s : State) (book : Book) (slate : Slate) → Right size s book → Told size s slate →
@@ -85,7 +86,8 @@ module _ (size : ℕ) (words : List ℕ) (card : Card words) where
       let more : Ran = run size words (one .state) m in
       subst Left (sym (run-more size words s m e))
       (rw (slate-append slate (one .trace) (more .trace))
-      (run-told (one .state) (bookOf book (one .trace)) (slateOf slate (one .trace)) (carried-right size words card s book r e .right) (carried-told s book slate r e told) m)))
+      (run-told (one .state) (bookOf book (one .trace)) (slateOf slate (one .trace))
+      (carried-right size words card s book r e .right) (carried-told s book slate r e told) m)))
       (λ e. subst Left (sym (run-stopped size words s (suc m) e)) (unfold slateOf in told))
 
 -- ---- along calls
@@ -98,12 +100,22 @@ unfolding stepCall runCall
 call-told size (stepOn image) box book slate cells e h told =
     let card = card-of image cells e in
     let ran : Ran = step size (cardOf image) (stateOf size box) in
-    rw (e, goes-on size box book ran h, read-back size (ran .state) _ (step-right size (cardOf image) card (stateOf size box) book (h .right) .right))
+    rw (
+      e,
+      goes-on size box book ran h,
+      read-back size (ran .state) _
+          (step-right size (cardOf image) card (stateOf size box) book (h .right) .right),
+    )
     (step-told size (cardOf image) card (stateOf size box) book slate (h .right) told)
 call-told size (runOn image m) box book slate cells e h told =
     let card = card-of image cells e in
     let ran : Ran = run size (cardOf image) (stateOf size box) m in
-    rw (e, goes-on size box book ran h, read-back size (ran .state) _ (run-right size (cardOf image) card (stateOf size box) book (h .right) m .right))
+    rw (
+      e,
+      goes-on size box book ran h,
+      read-back size (ran .state) _
+          (run-right size (cardOf image) card (stateOf size box) book (h .right) m .right),
+    )
     (run-told size (cardOf image) card (stateOf size box) book slate (h .right) told m)
 
 module _ (size : ℕ) (card : List ℕ) (cells : ℕ) (e : readOf card ≡ result.gives cells) where
@@ -204,10 +216,12 @@ module _ (size : ℕ) (words : List ℕ) (card : Card words) (s : State) (book :
   outcome-ending y i (fault k) e u v is = nothing refl is
   outcome-ending y i (done after) e u v is =
       let who : s .regs .thread ≡ u = ap (λ (l : List Entry). getD l 0 (record { thread = 0; event = event.other }) .thread) is in
-      let what : eventOf size (onward s) i after ≡ event.ends v = ap (λ (l : List Entry). getD l 0 (record { thread = 0; event = event.other }) .event) is in
+      let what : eventOf size (onward s) i after ≡ event.ends v =
+      ap (λ (l : List Entry). getD l 0 (record { thread = 0; event = event.other }) .event) is in
       by-effect who what e
     where
-      by-effect : s .regs .thread ≡ u → eventOf size (onward s) i after ≡ event.ends v → Effect size (onward s) i after → Ending size s after u v
+      by-effect : s .regs .thread ≡ u → eventOf size (onward s) i after ≡ event.ends v → Effect size (onward s) i after →
+          Ending size s after u v
       by-effect who what (aside joins none apart) = nothing none (ap endOf what)
       by-effect who what (late w joins below some at leaves) = nothing (ap endOf joins) (ap endOf what)
       by-effect who what (waits w joins leaves) = nothing (ap endOf joins) (ap endOf what)
@@ -215,7 +229,8 @@ module _ (size : ℕ) (words : List ℕ) (card : Card words) (s : State) (book :
           let both : event.ends x ≡ event.ends v = sym ends ∙ what in
           let same : x ≡ v = cc in
           let f = ends-ending size (onward s) book y x in
-          rw (leaves, ← who, ← same) (record { received = f .received; no-other = f .no-other; as-long = f .as-long; in-order = f .in-order })
+          rw (leaves, ← who, ← same)
+          (record { received = f .received; no-other = f .no-other; as-long = f .as-long; in-order = f .in-order })
 
   ending : (u : ℕ) (v : ℤ) → step size words s .trace ≡ record { thread = u; event = event.ends v } ∷ [] →
       Ending size s (step size words s .state) u v
@@ -228,7 +243,8 @@ module _ (size : ℕ) (words : List ℕ) (card : Card words) (s : State) (book :
       let y = onward-runs size words card s book r running (ltb-true _ _ k) in
       let i : Instruction = decoded (getD words (s .regs .pc) 0) in
       rw (running, k)
-      (outcome-ending y i (exec size (length words) (onward s) i) (effect size (length words) (onward s) book y (card .most) i) u v (rw (running, k) at is)))
+      (outcome-ending y i (exec size (length words) (onward s) i)
+      (effect size (length words) (onward s) book y (card .most) i) u v (rw (running, k) at is)))
       (λ k. nothing refl (rw (running, k) at is)))
       (λ idle. nothing refl (rw idle at is))
 

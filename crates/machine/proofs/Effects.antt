@@ -79,7 +79,8 @@ module _ (size n : ℕ) (s : State) (book : Book) (y : Runs size s book) (short 
   unfolding exec eventOf
   effect-store =
       ends-needs _ 2 _ _
-      (λ h. ends-within _ _ _ _ _ refl (λ a e below. aside refl refl (apart-cells size s stands _ _ refl (stacks-shared size s stands a _ below))))
+      (λ h. ends-within _ _ _ _ _ refl
+      (λ a e below. aside refl refl (apart-cells size s stands _ _ refl (stacks-shared size s stands a _ below))))
 
   effect-loadr : (k : ℤ) → Has (instr.loadr k)
   unfolding exec eventOf
@@ -87,11 +88,14 @@ module _ (size n : ℕ) (s : State) (book : Book) (y : Runs size s book) (short 
 
   effect-storer : (k : ℤ) → Has (instr.storer k)
   unfolding exec eventOf
-  effect-storer k = ends-needs _ 1 _ _ (λ h. ends-within _ _ _ _ _ refl (λ i e below. aside refl refl (own i _ _ refl (omega (arith, room)))))
+  effect-storer k =
+      ends-needs _ 1 _ _ (λ h. ends-within _ _ _ _ _ refl (λ i e below. aside refl refl (own i _ _ refl (omega (arith, room)))))
 
   effect-alloc : (k : ℕ) → Has (instr.alloc k)
   unfolding exec eventOf
-  effect-alloc k = ends-rooms _ k _ _ (λ h. aside refl refl (apart-cells size s stands _ _ refl (stacks-run size s stands k (s .regs .cells) h)))
+  effect-alloc k =
+      ends-rooms _ k _ _ (λ h. aside refl refl
+      (apart-cells size s stands _ _ refl (stacks-run size s stands k (s .regs .cells) h)))
 
   effect-pop : Has instr.pop
   unfolding exec eventOf
@@ -212,7 +216,8 @@ module _ (size n : ℕ) (s : State) (book : Book) (y : Runs size s book) (short 
       tables .depths ≡ s .tables .depths →
       Apart size runner s (record { store = s .store; tables = tables; values = s .values; regs = regs })
   queues tables regs same places depths =
-      apart-on size s stands _ tables _ regs same places (λ t h far i. ap (λ (l : List ℕ). getD l t 0) depths) (λ t h. refl) (λ t i h far awake small. refl)
+      apart-on size s stands _ tables _ regs same places (λ t h far i. ap (λ (l : List ℕ). getD l t 0) depths) (λ t h. refl)
+      (λ t i h far awake small. refl)
 
   -- the machine with top popped
   abbrev less : State
@@ -248,7 +253,8 @@ module _ (size n : ℕ) (s : State) (book : Book) (y : Runs size s book) (short 
       ends-within _ _ _ _ _ refl
       (λ m e made.
       ends-owns size n s book y short _ m _
-      (λ mine. aside refl refl (queues _ _ refl (places-wider (places-given (stands .lined) m (mutex-limit m made))) (given-depths size (s .tables) m)))))
+      (λ mine. aside refl refl (queues _ _ refl (places-wider (places-given (stands .lined) m (mutex-limit m made)))
+      (given-depths size (s .tables) m)))))
 
   -- the thread leaves for a condition, and a mutex is given on
   away-given : (c m : ℕ) → m < mutexLimit size →
@@ -260,7 +266,8 @@ module _ (size n : ℕ) (s : State) (book : Book) (y : Runs size s book) (short 
       apart-then popping
       (apart-then (apart-left size less stands (atCondition size c) (λ k. omega (arith, k)))
       (apart-wider
-      (apart-then (apart-tables size away (unlocked size (away .tables) m) (places-given lined m limit) (given-depths size (away .tables) m))
+      (apart-then (apart-tables size away (unlocked size (away .tables) m) (places-given lined m limit)
+      (given-depths size (away .tables) m))
       (apart-next size (withTables away (unlocked size (away .tables) m)) (lined-given lined m) (unfold left in refl)))))
 
   effect-wait : Has instr.wait
@@ -284,7 +291,9 @@ module _ (size n : ℕ) (s : State) (book : Book) (y : Runs size s book) (short 
       ends-needs _ 1 _ _
       (λ h.
       ends-within _ _ _ _ _ refl
-      (λ c e made. aside refl refl (queues _ _ refl (places-wider (places-first (stands .lined) (atCondition size c) (wakeable-condition c made))) (first-depths (s .tables) (atCondition size c)))))
+      (λ c e made. aside refl refl
+      (queues _ _ refl (places-wider (places-first (stands .lined) (atCondition size c) (wakeable-condition c made)))
+      (first-depths (s .tables) (atCondition size c)))))
 
   effect-broadcast : Has instr.broadcast
   unfolding exec eventOf
@@ -319,9 +328,15 @@ module _ (size n : ℕ) (s : State) (book : Book) (y : Runs size s book) (short 
 
   -- a count is set, with top popped and other tables
   counting : (k : ℕ) (v : ℤ) (tables : Tables) → Places size runner (s .tables) tables → tables .depths ≡ s .tables .depths →
-      Apart size runner s (record { store = s .store; tables = tables; values = set (s .values) (size + k) v; regs = withCells (s .regs) (s .regs .cells - 1) })
+      Apart size runner s (record {
+        store = s .store;
+        tables = tables;
+        values = set (s .values) (size + k) v;
+        regs = withCells (s .regs) (s .regs .cells - 1);
+      })
   counting k v tables places depths =
-      apart-on size s stands _ tables _ _ refl places (λ t h far i. ap (λ (l : List ℕ). getD l t 0) depths) (count-apart k v) (λ t i h far awake small. refl)
+      apart-on size s stands _ tables _ _ refl places (λ t h far i. ap (λ (l : List ℕ). getD l t 0) depths) (count-apart k v)
+      (λ t i h far awake small. refl)
 
   raised-apart : (k : ℕ) (count : ℤ) → k < s .regs .semaphores → Apart size runner s (raised size n s k count)
   raised-apart k count made =
@@ -330,13 +345,16 @@ module _ (size n : ℕ) (s : State) (book : Book) (y : Runs size s book) (short 
       (λ b.
       rw b
       (counting k count (wakeFirst (s .tables) (atSemaphore size k))
-      (places-wider (places-first (stands .lined) (atSemaphore size k) (record { not-ended = λ i. omega (arith, i); no-end = λ w i. omega (arith, i) })))
+      (places-wider (places-first (stands .lined) (atSemaphore size k)
+      (record { not-ended = λ i. omega (arith, i); no-end = λ w i. omega (arith, i) })))
       (first-depths (s .tables) (atSemaphore size k))))
       (λ b. rw b (counting k count (s .tables) (places-same refl) refl))
 
   effect-up : Has instr.up
   unfolding exec eventOf
-  effect-up = ends-needs _ 1 _ _ (λ h. ends-within _ _ _ _ _ refl (λ k e made. ends-fits _ _ _ (aside refl refl (raised-apart k (semaphoreCount size (s .values) k +ℤ pos 1) made))))
+  effect-up =
+      ends-needs _ 1 _ _ (λ h. ends-within _ _ _ _ _ refl
+      (λ k e made. ends-fits _ _ _ (aside refl refl (raised-apart k (semaphoreCount size (s .values) k +ℤ pos 1) made))))
 
   lowered-apart : (k : ℕ) (count : ℤ) → Apart size runner s (lowered size n s k count)
   lowered-apart k count =
@@ -349,7 +367,9 @@ module _ (size n : ℕ) (s : State) (book : Book) (y : Runs size s book) (short 
 
   effect-down : Has instr.down
   unfolding exec eventOf
-  effect-down = ends-needs _ 1 _ _ (λ h. ends-within _ _ _ _ _ refl (λ k e made. aside refl refl (lowered-apart k (semaphoreCount size (s .values) k -ℤ pos 1))))
+  effect-down =
+      ends-needs _ 1 _ _ (λ h. ends-within _ _ _ _ _ refl
+      (λ k e made. aside refl refl (lowered-apart k (semaphoreCount size (s .values) k -ℤ pos 1))))
 
   -- ---- threads
 
@@ -402,7 +422,8 @@ module _ (size n : ℕ) (s : State) (book : Book) (y : Runs size s book) (short 
       let at : placeOf kept (s .regs .threads) ≡ unmade = ap (λ (l : List ℕ). getD l (s .regs .threads) 0) same ∙ new-unmade less in
       apart-on size s stands _ _ _ _ refl
       (places-then (places-same same)
-      (places-sent (s .regs .threads) ready (rw (same, stands .lined .long) less) (λ k. omega (arith, k)) (λ k. omega (arith, at, k)) (λ far w k. omega (arith, at, k))
+      (places-sent (s .regs .threads) ready (rw (same, stands .lined .long) less) (λ k. omega (arith, k))
+      (λ k. omega (arith, at, k)) (λ far w k. omega (arith, at, k))
       (λ far awake. record { least = omega arith; most = omega arith })))
       (λ t below far awake.
       ap (λ (l : List ℕ). getD l t 0) (sent-saved kept (s .regs .threads) ready .1)
@@ -412,7 +433,8 @@ module _ (size n : ℕ) (s : State) (book : Book) (y : Runs size s book) (short 
       let new = not-new less t awake in
       let first : List ℤ = set (s .store) (stackAt size (s .regs .threads) 0) (top size s) in
       let second : List ℤ = set first (stackAt size (s .regs .threads) 1) minusOne in
-      getD-set-other (newStack size (s .store) (s .regs .threads) (top size s)) (stackAt size runner (s .regs .cells - 2)) (stackAt size t i) _ (pos 0) (λ e. omega (arith, e, room))
+      getD-set-other (newStack size (s .store) (s .regs .threads) (top size s)) (stackAt size runner (s .regs .cells - 2))
+      (stackAt size t i) _ (pos 0) (λ e. omega (arith, e, room))
       ∙ getD-set-other second (stackAt size (s .regs .threads) 2) (stackAt size t i) minusOne (pos 0) (λ e. omega (arith, e))
       ∙ getD-set-other first (stackAt size (s .regs .threads) 1) (stackAt size t i) minusOne (pos 0) (λ e. omega (arith, e))
       ∙ getD-set-other (s .store) (stackAt size (s .regs .threads) 0) (stackAt size t i) (top size s) (pos 0) (λ e. omega (arith, e)))

@@ -133,7 +133,13 @@ unfolding slateOf
 ends-count [] slate u i j v w h d g = absurd (omega (arith, d .carried))
 ends-count (e ∷ rest) slate u i zero v w h d g = absurd (omega arith)
 ends-count (e ∷ rest) slate u zero (suc j) v w h d g =
-    omega (arith, end-counts rest (noted slate e) u j w (later e rest u j w g), ap length (ends-here slate e u v (d .end)), length-append (slate .results u) (v ∷ []))
+    omega (
+      arith,
+      end-counts rest (noted slate e) u j w (later e rest u j w g),
+      ap length
+          (ends-here slate e u v (d .end)),
+      length-append (slate .results u) (v ∷ []),
+    )
 ends-count (e ∷ rest) slate u (suc i) (suc j) v w h d g =
     omega (arith, ends-count rest (noted slate e) u i j v w (omega arith) (later e rest u i v d) (later e rest u j w g), one-more slate e u)
 
@@ -180,10 +186,12 @@ result-found (e ∷ rest) slate u v none is =
     (λ mine. by-event further (e .event) refl mine)
     (λ other. further (rw (ne-eqb u (e .thread) other) none))
   where
-    silent : (noted slate e .results u ≡ [] → Found (e ∷ rest) u v) → (happens : Event) → e .event ≡ happens → u ≡ e .thread → endOf happens ≡ [] → Found (e ∷ rest) u v
+    silent : (noted slate e .results u ≡ [] → Found (e ∷ rest) u v) → (happens : Event) → e .event ≡ happens →
+        u ≡ e .thread → endOf happens ≡ [] → Found (e ∷ rest) u v
     silent further happens what mine quiet = further (rw (eq-eqb u (e .thread) mine, none, what) quiet)
 
-    by-event : (noted slate e .results u ≡ [] → Found (e ∷ rest) u v) → (happens : Event) → e .event ≡ happens → u ≡ e .thread → Found (e ∷ rest) u v
+    by-event : (noted slate e .results u ≡ [] → Found (e ∷ rest) u v) → (happens : Event) → e .event ≡ happens →
+        u ≡ e .thread → Found (e ∷ rest) u v
     by-event further (event.ends w) what mine =
         let here : e ≡ record { thread = u; event = event.ends w } = λ i. record { thread = sym mine i; event = what i } in
         let all = extends rest (noted slate e) u in

@@ -73,8 +73,11 @@ module _ {size : ℕ} {s : State} {slate : Slate} (told : Told size s slate) whe
   told-noted r u below apart happens quiet mine =
       record {
         outside =
-            λ t h. let far : t ≢ r = λ e. omega (arith, e) in (rw (ne-eqb t r far) (told .outside t h .0), results t ∙ told .outside t h .1);
-        heard = λ t w h e. same-or-not t r (λ is. rw is (again r w (mine w (rw (eq-eqb t r is) at e)))) (λ far. again t w (heard-still apart t w h far (rw (ne-eqb t r far) at e)));
+            λ t h. let far : t ≢ r = λ e. omega (arith, e) in
+            (rw (ne-eqb t r far) (told .outside t h .0), results t ∙ told .outside t h .1);
+        heard =
+            λ t w h e. same-or-not t r (λ is. rw is (again r w (mine w (rw (eq-eqb t r is) at e))))
+            (λ far. again t w (heard-still apart t w h far (rw (ne-eqb t r far) at e)));
         ended-with =
             λ t h e.
             results t
@@ -189,7 +192,8 @@ unfolding next
 next-takes size s lined single = by-queue (queue (s .tables) ready) refl
   where
     by-queue : (l : List ℕ) → queue (s .tables) ready ≡ l →
-        (let after = nextOf size (first (s .tables) ready) s in runnerOf size after ++ queue (after .tables) ready) ≡ queue (s .tables) ready
+        (let after = nextOf size (first (s .tables) ready) s in runnerOf size after ++ queue (after .tables) ready) ≡ queue
+        (s .tables) ready
     by-queue [] e = rw (first-nobody (s .tables) ready e, eq-eqb size size refl)
     by-queue (t ∷ rest) e =
         let below : t < size = lined .within t (first-in-line (s .tables) ready t rest e) in
@@ -257,7 +261,8 @@ module _ (size : ℕ) (s : State) (book : Book) (y : Runs size s book) (v : ℤ)
       let b = y .steady .both in
       let q : ℕ = atEnd size runner in
       let woken = wakes-all b q (omega arith) (aside-end runner) .0 in
-      queue-kept (wakeAll (s .tables) q) runner ended ready (inside woken runner (stands .below)) (λ k. omega (arith, k)) (λ k. omega (arith, woken .kempt .tidy .runner (y .some) .1, k))
+      queue-kept (wakeAll (s .tables) q) runner ended ready (inside woken runner (stands .below)) (λ k. omega (arith, k))
+      (λ k. omega (arith, woken .kempt .tidy .runner (y .some) .1, k))
       ∙ queue-woken waiters (s .tables) b q (omega arith) (aside-end runner) refl
 
   finished-lined : Lined size (finished size s v .tables)
@@ -273,7 +278,9 @@ module _ (size : ℕ) (s : State) (book : Book) (y : Runs size s book) (v : ℤ)
   -- where the threads are afterwards
   at-end : placeOf (finished size s v .tables) runner ≡ ended
   unfolding finished
-  at-end = sent-here (wakeAll (s .tables) (atEnd size runner)) runner ended (rw (woken-length waiters (s .tables), stands .lined .long) (stands .below))
+  at-end =
+      sent-here (wakeAll (s .tables) (atEnd size runner)) runner ended
+      (rw (woken-length waiters (s .tables), stands .lined .long) (stands .below))
 
   at-waiter : (t : ℕ) → t < size → t ≢ runner → placeOf (s .tables) t ≡ atEnd size runner →
       placeOf (finished size s v .tables) t ≡ ready
@@ -351,21 +358,25 @@ module _ (size : ℕ) (s : State) (book : Book) (y : Runs size s book) (v : ℤ)
         (λ other. waiting (at-other t far (λ e. other (omega (arith, e, p))) ∙ p))
     hears t w h far (got awake is) =
         let away : placeOf (s .tables) t ≢ atEnd size runner = λ e. omega (arith, awake .most, e) in
-        let other : w ≢ runner = λ e. nothing (told .living w (omega (arith, e, stands .below)) (λ k. omega (arith, stands .runs, ap (placeOf (s .tables)) e, k))) is in
+        let other : w ≢ runner =
+        λ e. nothing (told .living w (omega (arith, e, stands .below))
+        (λ k. omega (arith, stands .runs, ap (placeOf (s .tables)) e, k))) is in
         let few = stands .few t h far awake in
         let beside = delivered-other size (s .tables) v waiters (s .store) (savedTop size (s .tables) t)
         (λ x c. let who = a-waiter x c in apart-tops t x few who (λ e. away (ap (placeOf (s .tables)) e ∙ who .at))) in
         got (rw (at-other t far away) awake)
         (theirs w other ∙ is ∙ ap (λ (x : ℤ). x ∷ []) (was-top t far ∙ sym (same-top t h far ∙ beside)))
       where
-        apart-tops : (t x : ℕ) → getD (s .tables .depths) t 0 ≤ 128 → Waiter-of x → t ≢ x → savedTop size (s .tables) t ≢ savedTop size (s .tables) x
+        apart-tops : (t x : ℕ) → getD (s .tables .depths) t 0 ≤ 128 → Waiter-of x → t ≢ x →
+            savedTop size (s .tables) t ≢ savedTop size (s .tables) x
         apart-tops t x few who far e = omega (arith, few, who .some, who .few, e)
 
     pub told-finished : Told size (finished size s v) told-end
     told-finished =
         record {
           outside =
-              λ t h. let far : t ≢ runner = λ e. omega (arith, e, stands .below) in (rw (ne-eqb t runner far) (told .outside t h .0), theirs t far ∙ told .outside t h .1);
+              λ t h. let far : t ≢ runner = λ e. omega (arith, e, stands .below) in
+              (rw (ne-eqb t runner far) (told .outside t h .0), theirs t far ∙ told .outside t h .1);
           heard =
               λ t w h e.
               same-or-not t runner
@@ -378,7 +389,8 @@ module _ (size : ℕ) (s : State) (book : Book) (y : Runs size s book) (v : ℤ)
               (λ far.
               same-or-not (placeOf (s .tables) t) (atEnd size runner)
               (λ at. absurd (omega (arith, at-waiter t h far at, e)))
-              (λ away. theirs t far ∙ told .ended-with t h (sym (at-other t far away) ∙ e) ∙ ap (λ (x : ℤ). x ∷ []) (sym (kept-there t far))));
+              (λ away. theirs t far ∙ told .ended-with t h (sym (at-other t far away) ∙ e) ∙ ap (λ (x : ℤ). x ∷ [])
+              (sym (kept-there t far))));
           living =
               λ t h e.
               same-or-not t runner
@@ -421,7 +433,9 @@ module _ (size : ℕ) (s : State) (book : Book) (y : Runs size s book) (slate : 
       got (rw (stands .runs) (record { least = omega arith; most = omega arith }))
       (rw (← same, eq-eqb (s .regs .thread) (s .regs .thread) refl)
       (told .ended-with w below at
-      ∙ ap (λ (x : ℤ). x ∷ []) (sym (getD-set-same (s .store) (stackAt size (s .regs .thread) (s .regs .cells - 1)) v (pos 0) (omega (arith, stands .below, y .steady .stored)))))))
+      ∙ ap (λ (x : ℤ). x ∷ []) (sym
+      (getD-set-same (s .store) (stackAt size (s .regs .thread) (s .regs .cells - 1)) v (pos 0)
+      (omega (arith, stands .below, y .steady .stored)))))))
 
   -- it joins one that has not: it waits
   told-waits : (w : ℕ) → Told size (blocked size s (atEnd size w)) (noted slate (entry (s .regs .thread) (event.joins w)))
@@ -433,7 +447,8 @@ module _ (size : ℕ) (s : State) (book : Book) (y : Runs size s book) (slate : 
       (λ u e.
       let same : w ≡ u = cc in
       waiting
-      (apart-next size (left size s (atEnd size w)) (lined-left size s stands (atEnd size w)) (unfold left in refl) .places .waits-too r u (stands .below)
+      (apart-next size (left size s (atEnd size w)) (lined-left size s stands (atEnd size w))
+      (unfold left in refl) .places .waits-too r u (stands .below)
       (λ k. omega (arith, stands .below, k)) (rw (← same) (left-there size s stands (atEnd size w)))))
 
   -- whatever the instruction
