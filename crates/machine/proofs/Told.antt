@@ -159,11 +159,6 @@ woken-there (x ∷ rest) a t none =
     let far : t ≢ x = λ e. omega (arith, count-cons t x rest, one-if-is x t (sym e)) in
     woken-there rest (sent a x ready) t (omega (arith, count-cons t x rest)) ∙ sent-there a x ready t far
 
-woken-length : (l : List ℕ) (a : Tables) → length (allReady l a .places) ≡ length (a .places)
-unfolding allReady sent
-woken-length [] a = refl
-woken-length (t ∷ rest) a = woken-length rest (sent a t ready) ∙ length-set (a .places) t ready
-
 lined-woken : {size : ℕ} (l : List ℕ) (a : Tables) → Lined size a → Lined size (allReady l a)
 unfolding allReady
 lined-woken [] a lined = lined
@@ -269,6 +264,10 @@ module _ (size : ℕ) (s : State) (book : Book) (y : Runs size s book) (v : ℤ)
   unfolding finished
   finished-lined = lined-sent (lined-woken waiters (s .tables) (stands .lined)) runner ended
 
+  -- Next then leaves all others alone
+  next-apart : Apart size size (finished size s v) (ends size s v)
+  next-apart = apart-next size (finished size s v) finished-lined (unfold finished in refl)
+
   finished-once : (t : ℕ) → t < size → count t (finished size s v .tables .line) ≡ 1
   unfolding finished
   finished-once t h =
@@ -280,7 +279,7 @@ module _ (size : ℕ) (s : State) (book : Book) (y : Runs size s book) (v : ℤ)
   unfolding finished
   at-end =
       sent-here (wakeAll (s .tables) (atEnd size runner)) runner ended
-      (rw (woken-length waiters (s .tables), stands .lined .long) (stands .below))
+      (rw (lined-woken waiters (s .tables) (stands .lined) .long) (stands .below))
 
   at-waiter : (t : ℕ) → t < size → t ≢ runner → placeOf (s .tables) t ≡ atEnd size runner →
       placeOf (finished size s v .tables) t ≡ ready
@@ -330,9 +329,6 @@ module _ (size : ℕ) (s : State) (book : Book) (y : Runs size s book) (v : ℤ)
         in-order = next-takes size (finished size s v) finished-lined finished-once ∙ finished-queue;
       }
     where
-      next-apart : Apart size size (finished size s v) (ends size s v)
-      next-apart = apart-next size (finished size s v) finished-lined (unfold finished in refl)
-
       finished-store : finished size s v .store ≡ delivered size (s .tables) v waiters (s .store)
       finished-store = unfold finished in refl
 
@@ -414,9 +410,7 @@ module _ (size : ℕ) (s : State) (book : Book) (y : Runs size s book) (slate : 
   told-ends : (v : ℤ) → Told size (ends size s v) (noted slate (entry (s .regs .thread) (event.ends v)))
   told-ends v =
       told-kept (told-finished size s book y v slate told) (ends size s v)
-      (apart-next size (finished size s v)
-      (finished-lined size s book y v)
-      (unfold finished in refl))
+      (next-apart size s book y v)
 
   -- it joins a thread that has ended: the result is on top
   told-late : (w : ℕ) → w < size → 1 ≤ s .regs .cells → placeOf (s .tables) w ≡ ended →
