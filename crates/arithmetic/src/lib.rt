@@ -1,6 +1,7 @@
 // Arithmetic of cells, 32-bit signed numbers: every result exactly, in 64 bits, and one test whether it is a cell.
 // Inner: the machine's instructions call these functions.
 #![tactic(auto)]
+
 ghost use Rattle.std.specs.Prelude.{◌≡◌, cond, ltb, nat_abs, pos, neg_ℤ, ◌+ℤ◌, ◌-ℤ◌, ◌*ℤ◌};
 ghost use Rattle.std.specs.Int.Signed.{le_z, lt_z, mag, quot_z, rem_z};
 ghost use Rattle.arithmetic.specs.Arithmetic.{eq_z};

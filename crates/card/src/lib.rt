@@ -1,6 +1,7 @@
 // The card image: its reader and its code part. The public functions are `read` and `code_part`, which take any
 // input. The others are inner, for the writer and the machine.
 #![tactic(auto)]
+
 mod fetching;
 pub mod layout;
 mod reader;

@@ -1,6 +1,7 @@
 // The cells of the store, and the one range check of the machine. Inner: the instructions use them on a running
 // machine.
 #![tactic(auto)]
+
 mod attempts;
 mod cells;
 mod index;

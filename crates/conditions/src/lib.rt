@@ -1,5 +1,6 @@
 // Conditions. Inner: the engine calls these functions on a running machine.
 #![tactic(auto)]
+
 mod numbers;
 mod waiting;
 mod waking;

@@ -1,5 +1,6 @@
 // Decimal numbers in a text. Inner: readers of texts call these functions on a word that they have found.
 #![tactic(auto)]
+
 ghost use Rattle.std.specs.Prelude.{true, ◌≡◌, ◌+◌, ◌*◌, ◌-◌, ◌≤◌};
 ghost use Rattle.digits.specs.Reading.{all_digits, capped, decimal_of, is_decimal, is_digit, value_of};
 

@@ -1,6 +1,7 @@
 // The dispatcher: the instruction of each opcode but those that the engine takes beside its loop, yield, lock and
 // unlock. Inner: the engine calls it on a running machine.
 #![tactic(auto)]
+
 mod own;
 
 ghost use Rattle.std.specs.Prelude.{◌≤◌, length};

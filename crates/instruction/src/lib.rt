@@ -1,6 +1,7 @@
 // One instruction as a 32-bit word, opcode times 2^24 plus the operand's 24 bits, and whether a rule allows its operand.
 // Inner: the card's reader and writer and the machine call these functions.
 #![tactic(auto)]
+
 ghost use Rattle.std.specs.Prelude.{◌≡◌, ◌+◌, ◌%◌, ◌<◌, ◌≤◌, length};
 ghost use Rattle.std.proofs.lemmas.List.Edits.{sets};
 ghost use Rattle.instruction.specs.Bytes.{half_at, half_bytes, word_at, word_bytes};

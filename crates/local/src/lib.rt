@@ -2,6 +2,7 @@
 // its context. Inner: the engine's loop calls `execute`, from one place, so that the compiler puts all of them into
 // that loop; none becomes a call there, as alloc would. The dispatcher has them too, and the numbers of their faults.
 #![tactic(auto)]
+
 ghost use Rattle.std.specs.Prelude.{nat_abs, length, ◌≡◌};
 ghost use Rattle.cells.specs.Attempts.{Fit};
 ghost use Rattle.instruction.specs.Word.{opcode_of, operand_of};

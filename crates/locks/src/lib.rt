@@ -1,5 +1,6 @@
 // Mutexes. Inner: the engine calls these functions on a running machine.
 #![tactic(auto)]
+
 mod mutexes;
 mod numbers;
 

@@ -1,5 +1,6 @@
 // The machine's types: registers by value, the numbers of threads, mutexes, conditions and semaphores, and the answers.
 #![tactic(auto)]
+
 mod answers;
 mod context;
 pub mod faults;

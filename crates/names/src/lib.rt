@@ -1,6 +1,7 @@
 // The names of the opcodes, written and read from a word, and which opcodes have an operand: the table of opcodes for
 // texts. Inner: the listing and the importer call these functions.
 #![tactic(auto)]
+
 ghost use Rattle.std.specs.Prelude.{◌+◌, ◌<◌, ◌≤◌, length, ◌≡◌};
 ghost use Rattle.opcodes.specs.Ascii.{same};
 ghost use Rattle.opcodes.specs.Page.{name_of, rule_of};

@@ -1,6 +1,7 @@
 // Arithmetic and comparisons on the top of a stack. Inner: the engine calls them on a running machine, with an opcode
 // of their own.
 #![tactic(auto)]
+
 mod comparisons;
 mod numbers;
 mod single;

@@ -1,6 +1,7 @@
 // What a call gives back: its answer, the number of instructions carried out, and the registers. Inner: the public
 // calls make it.
 #![tactic(auto)]
+
 ghost use Rattle.std.specs.Prelude.{◌≡◌};
 ghost use Rattle.outcome.specs.Outcome.{Ends, refusal};
 ghost use Rattle.machine.specs.Calls.{answer_of, told};

@@ -1,6 +1,7 @@
 // Passing a semaphore: a count is lowered, and the thread waits where that is negative; it is raised, and the first
 // who waits goes on. Inner: up and down call these functions with the number of a semaphore that was made.
 #![tactic(auto)]
+
 ghost use Rattle.std.specs.Prelude.{cond, ◌≡◌, ◌*◌, ◌<◌, ◌≤◌, pos, length};
 ghost use Rattle.std.specs.Int.Signed.{le_z};
 ghost use Rattle.machine.specs.Execution.{lowering, raising};

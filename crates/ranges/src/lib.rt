@@ -1,6 +1,7 @@
 // The parts of the well-formed test that ask nothing of the tables before: the registers' ranges, and the line of
 // threads. Inner.
 #![tactic(auto)]
+
 mod order;
 mod registers;
 

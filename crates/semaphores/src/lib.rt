@@ -1,5 +1,6 @@
 // Semaphores. Inner: the engine calls these functions on a running machine.
 #![tactic(auto)]
+
 mod making;
 mod moving;
 mod numbers;

@@ -1,6 +1,7 @@
 // The start of a machine: what setting up leaves in the store, the tables and the values. Inner: set-up calls it on
 // memory of the right sizes.
 #![tactic(auto)]
+
 ghost use Rattle.std.specs.Prelude.{◌≡◌, pos, length, replicate};
 ghost use Rattle.machine.specs.State.{start_tables};
 ghost use Rattle.machine.specs.Tables.{slice_of};

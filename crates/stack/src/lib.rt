@@ -1,6 +1,7 @@
 // The running thread's own stack: values pushed, popped and moved on it. Inner: the engine calls them on a running
 // machine.
 #![tactic(auto)]
+
 mod constants;
 mod frames;
 mod stack_ops;

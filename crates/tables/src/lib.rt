@@ -2,6 +2,7 @@
 // this one knows their layout: the others name a thread, a mutex, a condition or a semaphore by its number. Inner:
 // the machine's instructions call these functions on tables that are in order.
 #![tactic(auto)]
+
 mod layout;
 mod order;
 mod owners;

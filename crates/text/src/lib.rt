@@ -1,6 +1,7 @@
 // Text in a lent buffer: each function writes from byte `at` on and answers the byte after its text. Inner: the
 // callers see to the room.
 #![tactic(auto)]
+
 ghost use Rattle.std.specs.Prelude.{◌+◌, ◌<◌, ◌≤◌, length, [], ◌∷◌};
 ghost use Rattle.text.specs.Decimal.{decimal, signed};
 ghost use Rattle.text.specs.Lines.{Puts};

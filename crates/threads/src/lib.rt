@@ -1,5 +1,6 @@
 // Threads: whose turn it is, waiting, and making one. Inner: the engine calls them on a running machine.
 #![tactic(auto)]
+
 mod makes;
 mod number;
 mod turns;

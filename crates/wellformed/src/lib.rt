@@ -1,6 +1,7 @@
 // Whether lent tables fit the registers. Inner, but the engine asks it of whatever it was lent, so nothing is
 // required of the contents.
 #![tactic(auto)]
+
 ghost use Rattle.std.specs.Prelude.{◌≡◌, ◌≤◌};
 ghost use Rattle.machine.specs.WellFormed.{tables_fit, well_formed};
 

@@ -1,5 +1,6 @@
 // Words in a text: the bytes between two separators. Inner: readers of texts call these functions.
 #![tactic(auto)]
+
 ghost use Rattle.std.specs.Prelude.{◌+◌, ◌≤◌, drop, length, ◌≡◌};
 ghost use Rattle.opcodes.specs.Ascii.{same};
 ghost use Rattle.words.specs.Words.{up_to};

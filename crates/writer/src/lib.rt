@@ -1,5 +1,6 @@
 // The writer of card images. `write` is public: it takes any input, and refuses what is bad.
 #![tactic(auto)]
+
 ghost use Rattle.std.specs.Prelude.{◌≡◌, ◌+◌, ◌*◌, ◌≤◌, length};
 ghost use Rattle.std.proofs.lemmas.List.Edits.{sets};
 ghost use Rattle.writer.specs.Writing.{Wrote, header_of, words_bytes};
