@@ -11,7 +11,6 @@ use Rattle.opcodes.specs.Page.{name_of, page, rule_of}
 use Rattle.opcodes.specs.Rules.{allows, has_operand}
 use Rattle.instruction.specs.Word.{opcode_of}
 use Rattle.text.specs.Decimal.{decimal, signed}
-use Rattle.text.specs.Lines.{line}
 use Rattle.machine.proofs.Every.{and_true}
 use Rattle.digits.specs.Reading.{is_decimal, value_of}
 use Rattle.digits.proofs.Undone.{reads_back}

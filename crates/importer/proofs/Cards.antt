@@ -14,7 +14,6 @@ use lib.Seq.{length-take-le, sets, sets-eq, take-append_seam}
 use Rattle.card.specs.Image.{image_size, last_of, out_of_range}
 use Rattle.writer.specs.Writing.{Wrote, after_list, buffer_of, write_of}
 use Rattle.card.specs.Result.{Result, gives, refuses}
-use Rattle.card.specs.declared.scan.Scan.TheVariants.{Bad}
 use Rattle.writer.specs.Writing as writes
 use Rattle.writer.specs.declared.Writing.{Writing}
 use Rattle.writer.specs.declared.Writing.TheVariants as writing

@@ -7,7 +7,7 @@ use Rattle.instruction.specs.Word.{opcode_of, operand_of}
 use Rattle.text.specs.Decimal.{decimal, signed}
 use Rattle.opcodes.specs.Rules.{has_operand}
 use Rattle.lister.specs.Text.{address_of, cells_word, header_line, instruction_line}
-use Rattle.lister.specs.declared.writer.Writer.{Writer}
+use Rattle.lister.specs.declared.line_writer.Writer.{Writer}
 
 -- line 0 is the header, with the number of cells; line i + 1 is that of instruction i, with its word
 abbrev pub line_text : ℕ → ℕ → List ℕ

@@ -3,8 +3,8 @@ ghost use Rattle.std.specs.Prelude.{◌≤◌, length, ◌≡◌};
 ghost use Rattle.card.specs.Image.{Headed, count_of};
 ghost use Rattle.lister.specs.Listing.{Leaves, Lists, content_of, line_of};
 
+use crate::line_writer::put_one;
 use crate::lines::ROOM;
-use crate::writer::put_one;
 use card::{Reading, layout, refusals};
 
 // The answer.

@@ -33,6 +33,14 @@ pub fn put<'a>(w: Writer<'a>, piece: usize, line: usize, content: u32) -> Writer
     }
 }
 
+// The same of a writer that is lent, so that its caller still knows which buffer it holds.
+fn put_on(w: &mut Writer<'_>, piece: usize, line: usize, content: u32)
+    requires { w.old.at + piece_room ≤ length w.old.out.now }
+    ensures { (w.new ≡ lined w.old piece line content) × (w.new.at ≤ w.old.at + piece_room) }
+{
+    w.at = piece_at(&mut *w.out, w.at, piece, line, content);
+}
+
 // The place reached.
 pub fn place<'a>(w: Writer<'a>) -> usize
     ensures { (result ≡ w.entry.at) × (w.exit.0.now ≡ w.entry.out.now) }
@@ -45,8 +53,9 @@ pub fn put_one(out: &mut [u8], line: usize, content: u32) -> usize
     requires { line_room ≤ length out.old }
     ensures { Puts (line_text line content) out.old 0 out.new result × (result ≤ line_room) }
 {
-    let started = put(new(out), START, line, content);
-    let shown = put(started, CONTENT, line, content);
-    let ended = put(shown, END, line, content);
-    place(ended)
+    let mut w = new(out);
+    put_on(&mut w, START, line, content);
+    put_on(&mut w, CONTENT, line, content);
+    put_on(&mut w, END, line, content);
+    place(w)
 }
