@@ -1,6 +1,7 @@
 // The engine: a run of many instructions, of a machine that is in order. Inner: the public calls test their input
 // first.
 #![tactic(auto)]
+
 mod progress;
 mod runs;
 mod stretches;

@@ -1,6 +1,7 @@
 // Setting up a machine for a card. `set_up` is public: it takes any input, and refuses what is bad. Crate `cma`
 // passes it on.
 #![tactic(auto)]
+
 ghost use Rattle.std.specs.Prelude.{◌≤◌};
 ghost use Rattle.outcome.specs.Outcome.{Gives};
 ghost use Rattle.machine.specs.Calls.{boxed, set_up};
