@@ -1,5 +1,6 @@
 // Registers and answers as lists of numbers. Inner: the functions for C take and give them.
 #![tactic(auto)]
+
 mod registers;
 mod results;
 

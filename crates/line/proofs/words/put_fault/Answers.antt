@@ -1,0 +1,13 @@
+-- `line::words::put_fault` meets its contract. Assumes nothing.
+use borrow.Author.Rules.{rules}
+use Rattle.text.specs.Lines.{line}
+use Rattle.text.proofs.Lines.{both}
+use Rattle.line.proofs.words.put_fault.Goals as goal
+
+pub returns : goal.returns
+unfolding line
+returns c = record { puts = both c.put_bytes-at.ensures
+      (both c.put_number-at.ensures.puts
+      (both c.put_number-at-2.ensures.puts
+      (both c.put_number-at-3.ensures.puts
+      (both c.put_number-at-4.ensures.puts c.put_byte.ensures)))); upper_bound = search rules }

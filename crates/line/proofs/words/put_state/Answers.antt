@@ -1,0 +1,9 @@
+-- `line::words::put_state` meets its contract. Assumes nothing.
+use borrow.Author.Rules.{rules}
+use Rattle.text.specs.Lines.{line}
+use Rattle.text.proofs.Lines.{both}
+use Rattle.line.proofs.words.put_state.Goals as goal
+
+pub returns : goal.returns
+unfolding line
+returns c = record { puts = both c.put_bytes-at.ensures (both c.put_number-at.ensures.puts c.put_byte.ensures); upper_bound = search rules }
