@@ -1,5 +1,6 @@
 // The machine for programs in C: each exported function takes any input, and says all that it leaves.
 #![tactic(auto)]
+
 mod calls;
 mod cards;
 mod texts;
