@@ -1,66 +1,64 @@
 // Lines that say what the reader and the writer answer.
 use card::Reading;
-use libc::STDOUT_FILENO;
 use writer::Writing;
 
-fn text(s: &[u8]) {
-    io::write_all(STDOUT_FILENO, s);
+// A text that can't be written is missing from what is compared.
+fn text(rt: &impl Print, s: &[u8]) {
+    let _ = rt.write_all(s);
 }
 
-fn number(n: u64) {
-    io::print_decimal(STDOUT_FILENO, n);
+fn number(rt: &impl Print, n: u64) {
+    let _ = rt.print(n);
 }
 
-fn refusal(no: u32, place: usize) {
-    text(b"refused ");
-    number(no as u64);
-    text(b" at ");
-    number(place as u64);
+fn refusal(rt: &impl Print, no: u32, place: usize) {
+    text(rt, b"refused ");
+    number(rt, no as u64);
+    text(rt, b" at ");
+    number(rt, place as u64);
 }
 
 // The reader's answer, and the size of the code part.
-pub fn reading(label: &[u8], image: &[u8]) {
-    text(label);
-    text(b": ");
+pub fn reading(rt: &impl Print, label: &[u8], image: &[u8]) {
+    text(rt, label);
+    text(rt, b": ");
     match card::read(image) {
         Reading::Accepted { cells } => {
-            text(b"accepted, cells ");
-            number(cells as u64);
+            text(rt, b"accepted, cells ");
+            number(rt, cells as u64);
         }
-        Reading::Refused { number: no, place } => refusal(no, place),
+        Reading::Refused { number: no, place } => refusal(rt, no, place),
     }
-    text(b", code of ");
-    number(card::code_part(image).len() as u64);
-    text(b"\n");
+    text(rt, b", code of ");
+    number(rt, card::code_part(image).len() as u64);
+    text(rt, b"\n");
 }
 
-fn byte(b: u8) {
-    io::print_hex(STDOUT_FILENO, b as u64, 2);
+fn byte(rt: &impl Print, b: u8) {
+    let _ = print!(rt; "{b:02x}");
 }
 
 // The bytes of a buffer, in hexadecimal.
-fn dump(s: &[u8]) {
-    let mut i = 0;
-    while i < s.len() {
-        byte(s[i]);
-        i += 1;
+fn dump(rt: &impl Print, s: &[u8]) {
+    for b in s {
+        byte(rt, *b);
     }
 }
 
 // The writer's answer, and what a short buffer holds afterwards.
-pub fn writing(label: &[u8], cells: usize, list: &[u32], out: &mut [u8]) {
-    text(label);
-    text(b": ");
+pub fn writing(rt: &impl Print, label: &[u8], cells: usize, list: &[u32], out: &mut [u8]) {
+    text(rt, label);
+    text(rt, b": ");
     match writer::write(cells, list, out) {
         Writing::Written { size } => {
-            text(b"written ");
-            number(size as u64);
+            text(rt, b"written ");
+            number(rt, size as u64);
         }
-        Writing::Refused { number: no, place } => refusal(no, place),
+        Writing::Refused { number: no, place } => refusal(rt, no, place),
     }
     if out.len() <= 24 {
-        text(b", buffer ");
-        dump(out);
+        text(rt, b", buffer ");
+        dump(rt, out);
     }
-    text(b"\n");
+    text(rt, b"\n");
 }

@@ -1,9 +1,12 @@
 // Standard input and output of the programs, which say on standard error what can't be read or written. Inner. No
 // contract can say which bytes come and go: that of reading says that those which it counts are in the buffer.
 #![tactic(auto)]
+
 ghost use Rattle.io.specs.Counts.{IsPrefixLen};
 
-use libc::{STDERR_FILENO, STDIN_FILENO, STDOUT_FILENO};
+use arrayvec::ArrayString;
+use std::fmt::Write;
+use std::io::{Error, Read, Result};
 
 // What came of reading: so many bytes stand at the start of the buffer, and whether a read failed after them. Where
 // none did, the input has ended or the buffer is full.
@@ -13,68 +16,75 @@ pub struct Input {
     pub failed: bool,
 }
 
-// One read. It has no bytes where the input has ended or the read fails.
-fn read_some(buf: &mut [u8]) -> Input
-    ensures { IsPrefixLen result.length buf.new }
-{
-    let got = libc::read(STDIN_FILENO, buf);
-    Input {
-        length: io::count(got, buf),
-        failed: got < 0,
-    }
-}
+// Longer than any error's text.
+const LONGEST_REASON: usize = 300;
 
-// Reads standard input until it ends, the buffer is full or a read fails.
-fn fill(buf: &mut [u8]) -> Input
-    ensures { IsPrefixLen result.length buf.new }
+// Reads until the input ends, the buffer is full or a read fails.
+fn fill(input: &mut impl Read, buf: &mut [u8]) -> (usize, Result<()>)
+    ensures { IsPrefixLen result.0 buf.new }
 {
     let mut length = 0;
     while length < buf.len() {
-        let got = read_some(&mut buf[length..]);
-        if got.length == 0 {
-            return Input {
-                length,
-                failed: got.failed,
-            };
+        match input.read(&mut buf[length..]) {
+            Ok(0) => return (length, Ok(())),
+            Ok(more) => length += more,
+            Err(error) => return (length, Err(error)),
         }
-        length += got.length;
     }
-    Input {
-        length,
-        failed: false,
-    }
+    (length, Ok(()))
 }
 
 // Writes to standard error. Where that fails too, there is nobody to tell.
-pub fn complain(text: &[u8]) {
-    io::write_all(STDERR_FILENO, text);
+pub fn complain(errors: &impl Print, text: &[u8]) {
+    let _ = errors.write_all(text);
+}
+
+// An error's text without the system's number behind it.
+fn reason(text: &str) -> &str {
+    match text.split_once(" (os error ") {
+        Some((reason, _)) => reason,
+        None => text,
+    }
 }
 
 // Says what a program can't do, and why.
-fn say(program: &[u8], what: &[u8]) {
-    complain(program);
-    os::fail(what);
+fn say(errors: &impl Print, program: &[u8], what: &[u8], error: Error) {
+    let mut text = ArrayString::<LONGEST_REASON>::new();
+    let _ = write!(text, "{error}");
+    complain(errors, program);
+    complain(errors, what);
+    complain(errors, b": ");
+    complain(errors, reason(text.as_str()).as_bytes());
+    complain(errors, b"\n");
 }
 
 // Reads all of standard input, or as much of it as the buffer has room for. Says so where a read fails.
-pub fn read(program: &[u8], buf: &mut [u8]) -> Input
+pub fn read(input: &mut impl Read, errors: &impl Print, program: &[u8], buf: &mut [u8]) -> Input
     ensures { IsPrefixLen result.length buf.new }
 {
-    let input = fill(buf);
-    if input.failed {
-        say(program, b": standard input can't be read");
+    let (length, ended) = fill(input, buf);
+    if let Err(error) = ended {
+        say(errors, program, b": standard input can't be read", error);
     }
-    input
+    Input {
+        length,
+        failed: ended.is_err(),
+    }
 }
 
-// Writes all of a text to standard output. False where that fails.
-pub fn write(text: &[u8]) -> bool {
-    io::write_all(STDOUT_FILENO, text)
+// Writes all of a text to standard output.
+pub fn write(output: &impl Print, text: &[u8]) -> Result<()> {
+    output.write_all(text)
 }
 
-// Says so where a program's output was not written: just after the write that failed.
-pub fn report(program: &[u8], written: bool) {
-    if !written {
-        say(program, b": standard output can't be written");
+// Says so where a program's output was not written.
+pub fn report(errors: &impl Print, program: &[u8], written: Result<()>) {
+    if let Err(error) = written {
+        say(
+            errors,
+            program,
+            b": standard output can't be written",
+            error,
+        );
     }
 }
