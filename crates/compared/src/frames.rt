@@ -1,5 +1,6 @@
 // A framed stream on standard input: one image, or text, after the other, each behind its length in 4 bytes,
 // big-endian.
+use std::io::Read;
 
 #[derive(Clone, Copy)]
 pub enum Frame {
@@ -14,31 +15,31 @@ fn length_of(head: &[u8; 4]) -> usize {
 }
 
 // Fills a part of the buffer. False where the stream ends or can't be read before.
-fn fill(part: &mut [u8]) -> bool {
-    let got = stdio::read(b"compared", part);
+fn fill(input: &mut impl Read, errors: &impl Print, part: &mut [u8]) -> bool {
+    let got = stdio::read(input, errors, b"compared", part);
     got.length == part.len()
 }
 
-fn damaged() -> Frame {
-    stdio::complain(b"compared: a frame is too long, or cut short\n");
+fn damaged(errors: &impl Print) -> Frame {
+    stdio::complain(errors, b"compared: a frame is too long, or cut short\n");
     Frame::End
 }
 
-fn body(buffer: &mut [u8], length: usize) -> Frame {
+fn body(input: &mut impl Read, errors: &impl Print, buffer: &mut [u8], length: usize) -> Frame {
     if buffer.len() < length {
-        return damaged();
+        return damaged(errors);
     }
-    if !fill(&mut buffer[0..length]) {
-        return damaged();
+    if !fill(input, errors, &mut buffer[0..length]) {
+        return damaged(errors);
     }
     Frame::Bytes { length }
 }
 
 // Reads the next frame to the start of the buffer.
-pub fn next(buffer: &mut [u8]) -> Frame {
+pub fn next(input: &mut impl Read, errors: &impl Print, buffer: &mut [u8]) -> Frame {
     let mut head = [0u8; 4];
-    if !fill(&mut head) {
+    if !fill(input, errors, &mut head) {
         return Frame::End;
     }
-    body(buffer, length_of(&head))
+    body(input, errors, buffer, length_of(&head))
 }

@@ -138,10 +138,8 @@ fn put_group(
     requires { count ≤ 64 }
 {
     let mut next = at;
-    let mut number = 0;
-    while number < count {
+    for number in 0..count {
         next = put_field(out, next, tables, values, letter, number);
-        number += 1;
     }
     next
 }

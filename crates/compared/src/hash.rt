@@ -1,6 +1,4 @@
 // The store's hash: 64-bit FNV-1a with a cell in a byte's place.
-use std::num::{wrapping_add_u64, wrapping_sub_u64};
-
 const START: u64 = 0xcbf29ce484222325;
 
 // The FNV prime is 2^40 + 435.
@@ -11,14 +9,14 @@ fn times_prime(n: u64) -> u64 {
     let low = n % 4294967296 * PRIME_LOW;
     let high = n / 4294967296 * PRIME_LOW % 4294967296 * 4294967296;
     let top = n % 16777216 * 1099511627776;
-    wrapping_add_u64(wrapping_add_u64(low, high), top)
+    low.wrapping_add(high).wrapping_add(top)
 }
 
 // A cell's 32 bits as a number without sign.
 fn bits(cell: i32) -> u64 {
     let n = arithmetic::magnitude(cell);
     if cell < 0 {
-        wrapping_sub_u64(0, n) % 4294967296
+        0u64.wrapping_sub(n) % 4294967296
     } else {
         n
     }
@@ -26,10 +24,8 @@ fn bits(cell: i32) -> u64 {
 
 pub fn hash(store: &[i32]) -> u64 {
     let mut h = START;
-    let mut i = 0;
-    while i < store.len() {
-        h = times_prime(h ^ bits(store[i]));
-        i += 1;
+    for cell in store {
+        h = times_prime(h ^ bits(*cell));
     }
     h
 }

@@ -1,6 +1,9 @@
 // For each card, or text, of a framed stream on standard input, prints what the argument asks for. The second program
 // prints the same, and the two are compared.
 #![tactic(auto)]
+
+ghost use Rattle.std.specs.Prelude.{◌≤◌, length};
+
 mod frames;
 mod groups;
 mod hash;
@@ -12,6 +15,8 @@ mod trace;
 
 use frames::Frame;
 use line::Line;
+use std::env::Env;
+use std::io::{Error, ErrorKind, Read, Result};
 
 // Longer than any card or text of a comparison.
 const LONGEST_FRAME: usize = 98304;
@@ -56,54 +61,82 @@ fn meaning(word: &[u8]) -> Asked {
 }
 
 // Says so where a text was not written. Answers whether it was.
-fn reported(written: bool) -> bool {
-    stdio::report(b"compared", written);
-    written
+fn reported(errors: &impl Print, written: Result<()>) -> bool {
+    stdio::report(errors, b"compared", written);
+    written.is_ok()
 }
 
-fn runner_line(image: &[u8]) -> bool {
+fn runner_line(output: &impl Print, image: &[u8]) -> Result<()> {
     let mut out = [0u8; line::ROOM];
     let Line::Written { length } = line::runner_line(image, &mut out) else {
-        return false;
+        return Err(Error::from(ErrorKind::InvalidInput));
     };
-    print::start(&out, length)
+    print::start(output, &out, length)
 }
 
 // Prints what a frame comes to. False where that can't be written.
-fn print_frame(show: Show, index: usize, frame: &[u8]) -> bool {
+fn print_frame(
+    output: &impl Print,
+    errors: &impl Print,
+    show: Show,
+    index: usize,
+    frame: &[u8],
+) -> bool {
     match show {
-        Show::Line => reported(runner_line(frame)),
-        Show::States => trace::states(index, frame),
-        Show::Listing => reported(print::text(frame)),
-        Show::Import => reported(print::imported(frame)),
+        Show::Line => reported(errors, runner_line(output, frame)),
+        Show::States => trace::states(output, errors, index, frame),
+        Show::Listing => reported(errors, print::text(output, frame)),
+        Show::Import => reported(errors, print::imported(output, frame)),
     }
 }
 
 // The same of the next frame. False where there is none, too.
-fn print_next(show: Show, index: usize, buffer: &mut [u8]) -> bool {
-    let Frame::Bytes { length } = frames::next(buffer) else {
+fn print_next(
+    input: &mut impl Read,
+    output: &impl Print,
+    errors: &impl Print,
+    show: Show,
+    index: usize,
+    buffer: &mut [u8],
+) -> bool {
+    let Frame::Bytes { length } = frames::next(input, errors, buffer) else {
         return false;
     };
     if buffer.len() < length {
         return false;
     }
-    print_frame(show, index, &buffer[0..length])
+    print_frame(output, errors, show, index, &buffer[0..length])
 }
 
-fn print_all(show: Show, buffer: &mut [u8]) {
-    let mut index = 0;
-    while index < MOST_FRAMES && print_next(show, index, buffer) {
-        index += 1;
+fn print_all(
+    input: &mut impl Read,
+    output: &impl Print,
+    errors: &impl Print,
+    show: Show,
+    buffer: &mut [u8],
+) {
+    for index in 0..MOST_FRAMES {
+        if !print_next(input, output, errors, show, index, buffer) {
+            return;
+        }
     }
 }
 
-fn main() {
+// The program's argument, at the start of the buffer: how long it is, or 0 where there is none that has room.
+fn argument(rt: &impl Env, word: &mut [u8]) -> usize
+    ensures { result ≤ length word.new }
+{
+    rt.arg(1, word).unwrap_or(0)
+}
+
+fn main(rt: HostRuntime) {
     let mut word = [0u8; 16];
-    let length = os::arg(1, &mut word);
+    let length = argument(&rt, &mut word);
+    let errors = rt.stderr();
     let Asked::For(show) = meaning(&word[..length]) else {
-        stdio::complain(b"usage: compared lines|states|listings|imports\n");
+        stdio::complain(&errors, b"usage: compared lines|states|listings|imports\n");
         return;
     };
     let mut buffer = [0u8; LONGEST_FRAME];
-    print_all(show, &mut buffer);
+    print_all(&mut rt.stdin(), &rt.stdout(), &errors, show, &mut buffer);
 }

@@ -1,5 +1,6 @@
 // Text into a line's buffer: each function writes from byte `at` on and answers the byte after its text. What has no
 // room is left out.
+use std::io::Result;
 
 // More than the longest line has.
 pub const ROOM: usize = 4096;
@@ -54,7 +55,7 @@ pub fn hex(out: &mut Buffer, at: usize, n: u64) -> usize {
     bytes(out, at, &digits[..k])
 }
 
-// Writes a line of so many bytes to standard output. False where it can't be written.
-pub fn print(out: &Buffer, length: usize) -> bool {
-    print::start(out, length)
+// Writes a line of so many bytes to standard output.
+pub fn print(output: &impl Print, out: &Buffer, length: usize) -> Result<()> {
+    print::start(output, out, length)
 }

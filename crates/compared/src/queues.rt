@@ -32,21 +32,17 @@ fn put_waiter(
 pub fn put_queue(out: &mut Buffer, at: usize, tables: &[usize], place: usize) -> usize {
     let first = put::byte(out, at, b'[');
     let mut next = first;
-    let mut i = LINE;
-    while i < TABLES {
+    for i in LINE..TABLES {
         next = put_waiter(out, next, first, tables, place, i);
-        i += 1;
     }
     put::byte(out, next, b']')
 }
 
 pub fn any_at(tables: &[usize], place: usize) -> bool {
-    let mut t = 0;
-    while t < THREADS {
+    for t in 0..THREADS {
         if entry(tables, t) == place {
             return true;
         }
-        t += 1;
     }
     false
 }

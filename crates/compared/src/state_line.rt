@@ -6,6 +6,7 @@ use crate::put;
 use crate::put::Buffer;
 use crate::queues::put_queue;
 use machine::Registers;
+use std::io::Result;
 
 // The state and the running thread's registers.
 fn put_running(out: &mut Buffer, r: Registers) -> usize {
@@ -42,8 +43,14 @@ fn put_state(
     put::byte(out, at, b'\n')
 }
 
-pub fn print_state(r: Registers, store: &[i32], tables: &[usize], values: &[i32]) -> bool {
+pub fn print_state(
+    output: &impl Print,
+    r: Registers,
+    store: &[i32],
+    tables: &[usize],
+    values: &[i32],
+) -> Result<()> {
     let mut out = [0u8; put::ROOM];
     let length = put_state(&mut out, r, store, tables, values);
-    put::print(&out, length)
+    put::print(output, &out, length)
 }

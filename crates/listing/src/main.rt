@@ -5,11 +5,12 @@
 // Of a longer input only so many bytes are judged.
 const INPUT_LIMIT: usize = 16394;
 
-fn main() {
+fn main(rt: HostRuntime) {
     let mut input = [0u8; INPUT_LIMIT];
-    let got = stdio::read(b"listing", &mut input);
+    let got = stdio::read(&mut rt.stdin(), &rt.stderr(), b"listing", &mut input);
     let length = got.length;
     if !got.failed {
-        stdio::report(b"listing", print::text(&input[..length]));
+        let written = print::text(&rt.stdout(), &input[..length]);
+        stdio::report(&rt.stderr(), b"listing", written);
     }
 }

@@ -1,9 +1,11 @@
-// What the programs for texts print on standard output. Inner. Each function answers false where it can't be written.
+// What the programs for texts print on standard output. Inner. Each function answers why it can't be written, if so.
 #![tactic(auto)]
+
 ghost use Rattle.std.specs.Prelude.{◌+◌, ◌*◌, ◌≤◌, length};
 
 use importer::Importing;
 use lister::Listing;
+use std::io::{Error, ErrorKind, Result};
 
 // A proved loop has to end: no card has more lines.
 const MOST_LINES: usize = 4097;
@@ -15,19 +17,24 @@ const LONGEST_LINE: usize = 32787;
 
 const DIGITS: [u8; 16] = *b"0123456789abcdef";
 
+// A text is shorter than what is to be printed of it.
+fn short() -> Error {
+    Error::from(ErrorKind::InvalidInput)
+}
+
 // The start of a text.
-pub fn start(text: &[u8], length: usize) -> bool {
+pub fn start(output: &impl Print, text: &[u8], length: usize) -> Result<()> {
     if text.len() < length {
-        return false;
+        return Err(short());
     }
-    stdio::write(&text[0..length])
+    stdio::write(output, &text[0..length])
 }
 
 // The line of a refusal.
-pub fn refusal(number: usize, place: usize) -> bool {
+pub fn refusal(output: &impl Print, number: usize, place: usize) -> Result<()> {
     let mut out = [0u8; line::ROOM];
     let length = line::put_refused(&mut out, number, place);
-    start(&out, length)
+    start(output, &out, length)
 }
 
 // What became of one line of a card's text.
@@ -36,34 +43,32 @@ enum Printed {
     Written,
     // No line comes behind it.
     Ended,
-    Unwritten,
-}
-
-fn then(written: bool, next: Printed) -> Printed {
-    if written { next } else { Printed::Unwritten }
 }
 
 // One line of a card's text, or the card's refusal.
-fn text_line(image: &[u8], line: usize) -> Printed {
+fn text_line(output: &impl Print, image: &[u8], line: usize) -> Result<Printed> {
     let mut out = [0u8; lister::ROOM];
     match lister::list_line(image, line, &mut out) {
-        Listing::Written { length } => then(start(&out, length), Printed::Written),
-        Listing::Past => Printed::Ended,
-        Listing::Refused { number, place } => then(refusal(number as usize, place), Printed::Ended),
+        Listing::Written { length } => {
+            start(output, &out, length)?;
+            Ok(Printed::Written)
+        }
+        Listing::Past => Ok(Printed::Ended),
+        Listing::Refused { number, place } => {
+            refusal(output, number as usize, place)?;
+            Ok(Printed::Ended)
+        }
     }
 }
 
 // A card's text, line by line, or its refusal.
-pub fn text(image: &[u8]) -> bool {
-    let mut line = 0;
-    while line < MOST_LINES {
-        match text_line(image, line) {
-            Printed::Written => line += 1,
-            Printed::Ended => return true,
-            Printed::Unwritten => return false,
+pub fn text(output: &impl Print, image: &[u8]) -> Result<()> {
+    for line in 0..MOST_LINES {
+        if let Printed::Ended = text_line(output, image, line)? {
+            return Ok(());
         }
     }
-    true
+    Ok(())
 }
 
 fn put_hex(out: &mut [u8], at: usize, byte: u8)
@@ -76,33 +81,31 @@ fn put_hex(out: &mut [u8], at: usize, byte: u8)
 fn put_all(out: &mut [u8], image: &[u8])
     requires { 2 * length image.now ≤ length out.old }
 {
-    let mut i = 0;
-    while i < image.len() {
+    for i in 0..image.len() {
         put_hex(out, 2 * i, image[i]);
-        i += 1;
     }
 }
 
-fn hex(image: &[u8]) -> bool
+fn hex(output: &impl Print, image: &[u8]) -> Result<()>
     requires { length image.now ≤ 16393 }
 {
     let mut out = [b'\n'; LONGEST_LINE];
     put_all(&mut out, image);
-    start(&out, 2 * image.len() + 1)
+    start(output, &out, 2 * image.len() + 1)
 }
 
-fn hex_start(image: &[u8], size: usize) -> bool {
+fn hex_start(output: &impl Print, image: &[u8], size: usize) -> Result<()> {
     if LONGEST_IMAGE < size || image.len() < size {
-        return false;
+        return Err(short());
     }
-    hex(&image[0..size])
+    hex(output, &image[0..size])
 }
 
 // The image of a text in hexadecimal, on a line, or the text's refusal.
-pub fn imported(text: &[u8]) -> bool {
+pub fn imported(output: &impl Print, text: &[u8]) -> Result<()> {
     let mut image = [0u8; LONGEST_IMAGE];
     match importer::import(text, &mut image) {
-        Importing::Imported { size } => hex_start(&image, size),
-        Importing::Refused { number, place } => refusal(number as usize, place),
+        Importing::Imported { size } => hex_start(output, &image, size),
+        Importing::Refused { number, place } => refusal(output, number as usize, place),
     }
 }

@@ -58,10 +58,8 @@ fn push(words: &mut [u32], at: usize, w: u32) -> usize {
 // Puts a word so many times.
 fn fill(words: &mut [u32], from: usize, times: usize, w: u32) -> usize {
     let mut at = from;
-    let mut left = times;
-    while 0 < left {
+    for _ in 0..times {
         at = push(words, at, w);
-        left -= 1;
     }
     at
 }
@@ -129,52 +127,50 @@ impl Assembler {
     }
 
     // The line ends: a session is run.
-    fn run(self, words: &mut [u32]) {
-        text(b" ");
+    fn run(self, rt: &impl Print, words: &mut [u32]) {
+        text(rt, b" ");
         let whole = self.put(words);
-        words_line(whole.cells, words, whole.count);
+        words_line(rt, whole.cells, words, whole.count);
     }
 }
 
-fn print(b: u8) {
+fn print(rt: &impl Print, b: u8) {
     let one = [b];
-    text(&one);
+    text(rt, &one);
 }
 
 // A byte of the line's text before the card.
-fn label(a: Assembler, b: u8) -> Assembler {
-    print(b);
+fn label(rt: &impl Print, a: Assembler, b: u8) -> Assembler {
+    print(rt, b);
     if b == b':' {
         return a.colon();
     }
     a
 }
 
-fn line_end(a: Assembler, words: &mut [u32]) {
+fn line_end(rt: &impl Print, a: Assembler, words: &mut [u32]) {
     if a.in_card {
-        a.run(words);
+        a.run(rt, words);
     } else {
-        print(b'\n');
+        print(rt, b'\n');
     }
 }
 
-fn feed(a: Assembler, b: u8, words: &mut [u32]) -> Assembler {
+fn feed(rt: &impl Print, a: Assembler, b: u8, words: &mut [u32]) -> Assembler {
     if b == b'\n' {
-        line_end(a, words);
+        line_end(rt, a, words);
         return fresh();
     }
     if a.in_card {
         return a.take(b, words);
     }
-    label(a, b)
+    label(rt, a, b)
 }
 
 // Runs the sessions of a text. `words` has room for a card's instructions.
-pub fn sessions(input: &[u8], words: &mut [u32]) {
+pub fn sessions(rt: &impl Print, input: &[u8], words: &mut [u32]) {
     let mut a = fresh();
-    let mut i = 0;
-    while i < input.len() {
-        a = feed(a, input[i], words);
-        i += 1;
+    for b in input {
+        a = feed(rt, a, *b, words);
     }
 }

@@ -9,15 +9,15 @@ const P4: [u8; 17] = [0, 0, 0, 13, 1, 0, 1, 0, 2, 1, 0, 0, 7, 20, 0, 0, 2];
 
 const P5: [u8; 17] = [0, 0, 0, 13, 1, 0, 1, 0, 2, 41, 0, 0, 7, 28, 0, 0, 0];
 
-fn session(label: &[u8], image: &[u8]) {
-    text(label);
-    image_line(image);
+fn session(rt: &impl Print, label: &[u8], image: &[u8]) {
+    text(rt, label);
+    image_line(rt, image);
 }
 
-pub fn refusals() {
-    session(b"P1 no bytes: ", b"");
-    session(b"P2 loadc 7, exit: ", &P2);
-    session(b"P3 version 2: ", &P3);
-    session(b"P4 jump 2 as second of two: ", &P4);
-    session(b"P5 opcode 41 first: ", &P5);
+pub fn refusals(rt: &impl Print) {
+    session(rt, b"P1 no bytes: ", b"");
+    session(rt, b"P2 loadc 7, exit: ", &P2);
+    session(rt, b"P3 version 2: ", &P3);
+    session(rt, b"P4 jump 2 as second of two: ", &P4);
+    session(rt, b"P5 opcode 41 first: ", &P5);
 }

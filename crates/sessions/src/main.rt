@@ -2,19 +2,21 @@
 // or what the calls answer. Most cards are text, read from standard input (at most 65,536 bytes): a session in code
 // costs half a second of proof.
 #![tactic(auto)]
+
 mod assembler;
 mod calls;
 mod images;
 mod naming;
 mod show;
 
-use libc::STDIN_FILENO;
+const INPUT_LIMIT: usize = 65536;
 
-fn main() {
-    images::refusals();
-    calls::sessions();
-    let mut input = io::large_buffer();
-    let got = io::read_full(STDIN_FILENO, &mut input);
+fn main(rt: HostRuntime) {
+    images::refusals(&rt);
+    calls::sessions(&rt);
+    let mut input = [0u8; INPUT_LIMIT];
+    let got = stdio::read(&mut rt.stdin(), &rt.stderr(), b"sessions", &mut input);
+    let length = got.length;
     let mut words = [0u32; 4096];
-    assembler::sessions(&input[..got], &mut words);
+    assembler::sessions(&rt, &input[..length], &mut words);
 }

@@ -2,9 +2,10 @@
 // (at most 65,536 bytes), a line each: a label, a colon, a space and the text, in which `/` stands for a line feed,
 // `~` for a carriage return and `>` for a tab. A line without a colon is a remark, and is printed as it is.
 #![tactic(auto)]
+
 ghost use Rattle.std.specs.Prelude.{◌≤◌, length};
 
-use libc::{STDIN_FILENO, STDOUT_FILENO};
+const INPUT_LIMIT: usize = 65536;
 
 const LONGEST_TEXT: usize = 4096;
 
@@ -20,45 +21,49 @@ fn decoded(b: u8) -> u8 {
 fn decode(out: &mut [u8], text: &[u8])
     requires { length text.now ≤ length out.old }
 {
-    let mut i = 0;
-    while i < text.len() {
+    for i in 0..text.len() {
         out[i] = decoded(text[i]);
-        i += 1;
     }
 }
 
+// What can't be written is missing from what is compared.
+fn put(rt: &impl Print, text: &[u8]) {
+    let _ = rt.write_all(text);
+}
+
 // What comes of a text as it stands in the line.
-fn print_text(text: &[u8]) {
+fn print_text(rt: &impl Print, text: &[u8]) {
     let mut out = [0u8; LONGEST_TEXT];
     let n = text.len();
     if n <= LONGEST_TEXT {
         decode(&mut out, text);
-        print::imported(&out[..n]);
+        let _ = print::imported(rt, &out[..n]);
     }
 }
 
-fn print_line(line: &[u8]) {
+fn print_line(rt: &impl Print, line: &[u8]) {
     let colon = words::find(line, 0, b':');
-    io::write_all(STDOUT_FILENO, &line[..colon]);
+    put(rt, &line[..colon]);
     if line.len() - colon < 2 {
-        io::write_all(STDOUT_FILENO, b"\n");
+        put(rt, b"\n");
     } else {
-        io::write_all(STDOUT_FILENO, b": ");
-        print_text(&line[colon + 2..]);
+        put(rt, b": ");
+        print_text(rt, &line[colon + 2..]);
     }
 }
 
-fn print_all(input: &[u8]) {
+fn print_all(rt: &impl Print, input: &[u8]) {
     let mut at = 0;
     while at < input.len() {
         let end = words::find(input, at, b'\n');
-        print_line(&input[at..end]);
+        print_line(rt, &input[at..end]);
         at = end + 1;
     }
 }
 
-fn main() {
-    let mut input = io::large_buffer();
-    let got = io::read_full(STDIN_FILENO, &mut input);
-    print_all(&input[..got]);
+fn main(rt: HostRuntime) {
+    let mut input = [0u8; INPUT_LIMIT];
+    let got = stdio::read(&mut rt.stdin(), &rt.stderr(), b"text_vectors", &mut input);
+    let length = got.length;
+    print_all(&rt, &input[..length]);
 }
