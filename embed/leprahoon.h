@@ -1,4 +1,4 @@
-/* The machine for C programs: link with target/staticlib/libleprahoon.a, which `rt staticlib leprahoon` makes.
+/* The machine for C programs: link with crates/leprahoon/out/libleprahoon.a, which `rt lib` in crates/leprahoon makes.
  *
  * Every function takes any input and answers it; what it answers, and what it leaves in everything that it was lent, is proved equal to
  * the machine's definitions. The caller owes one thing, which no proof can check: each pointer is to as many elements as the length

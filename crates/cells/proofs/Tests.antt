@@ -11,7 +11,7 @@ use mir.Val.{SFits, of_z, to_z}
 use mir.Facts.{to_z-of_z}
 use borrow.Author.Rules.{sfits_of}
 use borrow.Author.Tests.{lt-ltb, le-ltb, ltb-true}
-use Rattle.cells.specs.Contract.{after, index_of}
+use Rattle.cells.specs.Contract.{index_of}
 use Rattle.cells.specs.declared.index.Index.{Index}
 use Rattle.cells.specs.declared.index.Index.TheVariants.{In, Out}
 use Rattle.machine.specs.Execution.{Outcome, fault, needs, rooms, within}

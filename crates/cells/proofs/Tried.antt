@@ -12,7 +12,7 @@ use Rattle.machine.specs.Context.{done_with, in_context, stopped_by}
 use Rattle.machine.specs.Execution.{Outcome, done, exec, fault, pushed, rooms}
 use Rattle.machine.specs.Instructions.{Instruction, loadc}
 use Rattle.machine.specs.Registers.{stopped}
-use Rattle.machine.specs.State.{State, with_regs}
+use Rattle.machine.specs.State.{State}
 use Rattle.machine.specs.Step.{entered, onward}
 use Rattle.machine.specs.Tables.{Tables}
 use Rattle.machine.specs.declared.context.Attempt.{Attempt}

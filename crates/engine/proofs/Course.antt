@@ -24,7 +24,6 @@ use Rattle.machine.specs.Registers.{faulted, running}
 use Rattle.machine.specs.State.{State}
 use Rattle.machine.specs.Step.{carried, count_of, joined, run, still}
 use Rattle.machine.specs.declared.registers.Registers.{Registers}
-use Rattle.cells.specs.Contract.{at}
 
 module _ (size : ℕ) (words : List ℕ) (start : State) (m : ℕ) where
   -- nothing was carried out yet

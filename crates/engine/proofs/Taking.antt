@@ -1,7 +1,7 @@
 -- Yield, lock and unlock, taken beside the loop: they leave the idle front of the line, and of the registers change the running
 -- thread and its context alone. Assumes nothing.
 use Prim.Native.Nat.{ℕ}
-use mathlib.Core.Path.{◌≡◌, refl, ap, sym, ◌∙◌}
+use mathlib.Core.Path.{◌≡◌, refl}
 use mathlib.Core.Bool.{Bool, true, cond}
 use mathlib.Core.Logic.{inl, inr, ◌≢◌}
 use native.Mathlib.Omega.{arith}
@@ -20,7 +20,6 @@ use Rattle.machine.specs.Registers.{faulted, halted, running, stuck}
 use Rattle.machine.specs.State.{State, blocked, left, next, next_of, top}
 use Rattle.machine.specs.Step.{entered, executed, onward}
 use Rattle.machine.specs.Tables.{any_live, at_mutex, first, lives, owner_of, ready}
-use Rattle.machine.specs.declared.context.Context.{Context}
 use Rattle.machine.specs.declared.numbers.First.{First}
 use Rattle.machine.specs.declared.numbers.First.TheVariants.{Waiter, Nobody}
 use Rattle.machine.specs.declared.registers.Registers.{Registers}

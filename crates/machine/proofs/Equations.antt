@@ -1,5 +1,5 @@
 -- What a step leaves, by the outcome of its instruction; and each instruction's outcome, as an equation to cite. Assumes nothing.
-use Prim.Native.Nat.{ℕ, ◌+◌, ◌-◌, ◌*◌}
+use Prim.Native.Nat.{ℕ, ◌+◌, ◌-◌}
 use mathlib.Core.Path.{◌≡◌, refl, ap, sym}
 use mathlib.Core.Bool.{cond, not as negate}
 use lib.Dec.{ltb}

@@ -25,7 +25,7 @@ use Rattle.machine.specs.Size.{semaphore_limit, tables_size}
 use Rattle.machine.specs.State.{State, start, with_regs}
 use Rattle.machine.specs.Step.{carried, entered, onward, run}
 use Rattle.machine.specs.Tables.{Tables, at_mutex, at_semaphore, lives, queue, tables_of}
-use Rattle.machine.specs.WellFormed.{formed, tables_fit, well_formed}
+use Rattle.machine.specs.WellFormed.{tables_fit, well_formed}
 use Rattle.machine.specs.declared.registers.Registers.{Registers}
 use Rattle.machine.proofs.Every.{and_first, and_second}
 use Rattle.machine.proofs.Held.{Held, card_call, card_of_lem, held, held_formed, held_store, set_up_lem}

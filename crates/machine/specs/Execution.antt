@@ -1,6 +1,6 @@
 -- "What each instruction does", in the paper's order, with the faults of the table in their order of precedence: 21
 -- and 22 come first. PC has advanced already: see Step.antt.
-use Rattle.std.specs.Prelude.{ℕ, ◌+◌, ◌-◌, ◌*◌, Bool, cond, not as negate, ◌&&◌, eqb, leb, ltb, ℤ, pos, negsuc, neg_ℤ, ◌+ℤ◌, ◌-ℤ◌, ◌*ℤ◌, get_or, set, replicate}
+use Rattle.std.specs.Prelude.{ℕ, ◌+◌, ◌-◌, Bool, cond, not as negate, ◌&&◌, eqb, leb, ltb, ℤ, pos, negsuc, neg_ℤ, ◌+ℤ◌, ◌-ℤ◌, ◌*ℤ◌, get_or, set, replicate}
 use Rattle.std.proofs.lemmas.List.Edits.{sets}
 use Rattle.std.specs.Int.Signed.{le_z, lt_z, mag, quot_z, rem_z}
 use Rattle.arithmetic.specs.Arithmetic.{eq_z}

@@ -1,20 +1,17 @@
 -- Laws of semaphores: what an outcome leaves, and what up and down leave. Assumes nothing.
-use Prim.Native.Nat.{ℕ, ◌-◌, ◌<◌, ◌≤◌}
+use Prim.Native.Nat.{ℕ, ◌<◌, ◌≤◌}
 use mathlib.Core.Path.{◌≡◌, refl, ap, sym, ◌∙◌}
 use mathlib.Core.Bool.{Bool, true, false, cond}
-use mathlib.Core.List.{List}
 use native.Mathlib.Omega.{arith}
 use borrow.Author.Tests.{le-leb, le-ltb, lt-leb, lt-ltb, ltb-false, ltb-true}
-use lib.Dec.{leb, ltb}
 use lib.IntN.{ℤ, pos, negsuc, ◌-ℤ◌}
-use lib.ListN.{set}
 use lib.Signed.{le_z, lt_z, mag}
 use Rattle.machine.proofs.Lists.{less_or_not}
 use Rattle.machine.specs.Execution.{Outcome, done, exec, fault, lowered, popped, raised}
 use Rattle.machine.specs.Instructions.{Instruction}
 use Rattle.machine.specs.State.{State, blocked, with_count, with_tables}
 use Rattle.machine.specs.Step.{entered, executed, onward}
-use Rattle.machine.specs.Tables.{Tables, at_semaphore, wake_first}
+use Rattle.machine.specs.Tables.{at_semaphore, wake_first}
 use Rattle.machine.specs.WellFormed.{shortfall}
 use Rattle.passing.specs.Contract.{leaves}
 

@@ -6,7 +6,6 @@ use mathlib.Core.Logic.{◌≢◌}
 use native.Mathlib.Omega.{arith}
 use lib.Dec.{eqb}
 use borrow.Author.Tests.{eqb-true, eqb-false, ne_eqb}
-use Rattle.machine.specs.declared.numbers.Owner.{Owner}
 use Rattle.machine.specs.declared.numbers.Owner.TheVariants as owner
 use Rattle.machine.specs.declared.numbers.Thread.{Thread}
 use Rattle.tables.specs.Owners.{number_of, owner_at}

@@ -1,5 +1,4 @@
 -- `digits::all_digits` meets its contract. Assumes nothing.
-use Prim.Native.Nat.{◌-◌}
 use mathlib.Core.Path.{refl, sym, ◌∙◌}
 use borrow.Author.Tests.{not-false, not-true}
 use Rattle.digits.proofs.Walks.{digit_none, digit_on, digits_end}

@@ -2,12 +2,6 @@ use mathlib.Core.Path.{sym, ap, ◌∙◌}
 use Rattle.card.specs.Image.{told}
 use Rattle.outcome.specs.Outcome.{refusal}
 use Rattle.opening.proofs.SetUps.{misfit, misfit_tables, misfit_values, opened, unread}
-use Rattle.opening.proofs.set_up_box.Reads as reads
-use Rattle.opening.proofs.set_up_box.Lts as lts
-use Rattle.card.proofs.read.Reads as read-reads
-use Rattle.outcome.proofs.no_registers.Reads as no-registers-reads
-use Rattle.outcome.proofs.refused.Reads as refused-reads
-use Rattle.setup.proofs.start.Reads as start-reads
 use Rattle.opening.proofs.set_up_box.Goals as goal
 
 pub returns-then-store-size : goal.returns-then-store-size

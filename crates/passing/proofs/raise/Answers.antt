@@ -1,11 +1,8 @@
 -- `passing::raise` meets its contract. Assumes nothing.
 use Prim.Native.Nat.{ℕ}
 use mathlib.Core.Path.{◌≡◌, ap, sym, ◌∙◌}
-use mathlib.Core.Bool.{true, false}
 use mathlib.Core.List.{List}
-use lib.Dec.{ltb}
 use lib.IntN.{ℤ, pos, ◌+ℤ◌}
-use lib.Signed.{mag}
 use Rattle.machine.specs.State.{State, semaphore_count}
 use Rattle.machine.specs.Step.{onward}
 use Rattle.machine.specs.Tables.{tables_of}

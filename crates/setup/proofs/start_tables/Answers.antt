@@ -1,9 +1,7 @@
-use Prim.Native.Nat.{◌-◌}
 use mathlib.Core.Path.{refl, ◌∙◌}
 use native.Mathlib.Omega.{arith}
 use borrow.Author.Rules.{rules}
 use lib.ListN.{length-set}
-use Rattle.tables.specs.Start.{start_at}
 use Rattle.setup.proofs.Filling.{none_filled, one_filled}
 use Rattle.setup.proofs.Tables.{start_slice}
 use Rattle.setup.proofs.start_tables.Goals as goal

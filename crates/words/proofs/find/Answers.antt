@@ -1,5 +1,4 @@
 -- `words::find` meets its contract. Assumes nothing.
-use Prim.Native.Nat.{◌-◌}
 use mathlib.Core.Path.{refl, sym, ◌∙◌}
 use native.Mathlib.Omega.{arith}
 use Rattle.words.proofs.Walks.{at_end_lem, at_sep, past_byte}

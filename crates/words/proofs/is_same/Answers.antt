@@ -1,5 +1,4 @@
 -- `words::is_same` meets its contract. Assumes nothing.
-use Prim.Native.Nat.{◌-◌}
 use mathlib.Core.Path.{refl, sym, ◌∙◌}
 use native.Mathlib.Omega.{arith}
 use Rattle.words.proofs.Walks.{other_length, same_end, same_none, same_on}

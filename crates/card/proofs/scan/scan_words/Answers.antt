@@ -1,6 +1,6 @@
 -- `scan::scan_words` meets its contract. The loop's invariant: from index i the search finds what the whole search
 -- finds. Assumes nothing.
-use Prim.Native.Nat.{◌-◌, ◌<◌}
+use Prim.Native.Nat.{◌<◌}
 use mathlib.Core.Path.{refl, sym, ◌∙◌}
 use native.Mathlib.Omega.{arith}
 use borrow.Author.Rules.{rules}
@@ -56,15 +56,14 @@ pub loop-i-smaller : goal.loop-i-smaller
 loop-i-smaller c = omega arith
 
 pub loop-i-preserved : goal.loop-i-preserved
-loop-i-preserved c =
-    (
-      omega arith,
-      let looked = c.rules-rules.ensures.rule _ _ (known (goal.at.loop-i-preserved c).Else-not-is_known) in
-          c.loop-i.invariant.1
-          ∙ goes_on _ _ _ _ c.loop-i-test.true refl _ c.opcode-opcode.ensures (known (goal.at.loop-i-preserved c).Else-not-is_known) _ looked _
-          c.bits.ensures
-          (sym c.permits.ensures ∙ not-false _ c.if-not-permits.false-raw),
-    )
+loop-i-preserved c = (
+  omega arith,
+  let looked = c.rules-rules.ensures.rule _ _ (known (goal.at.loop-i-preserved c).Else-not-is_known) in
+      c.loop-i.invariant.1
+      ∙ goes_on _ _ _ _ c.loop-i-test.true refl _ c.opcode-opcode.ensures (known (goal.at.loop-i-preserved c).Else-not-is_known) _ looked _
+      c.bits.ensures
+      (sym c.permits.ensures ∙ not-false _ c.if-not-permits.false-raw),
+)
 
 pub returns : goal.returns
 returns c = sym (rw (to_z-of_z c.ranges.last) at (c.loop-i.invariant.1 ∙ ends _ _ _ (omega arith)))

@@ -1,11 +1,8 @@
 -- `counts::levels::levels_fit` meets its contract. Assumes nothing.
 use borrow.Author.Tests.{not-true, not-false}
 use native.Mathlib.Omega.{arith}
-use Prim.Native.Nat.{◌-◌}
 use mathlib.Core.Path.{sym, ◌∙◌}
-use mathlib.Core.Bool.{true}
 use Rattle.ranges.proofs.Loops.{every_all, every_more, every_none, every_stop}
-use Rattle.machine.specs.WellFormed.{level_fits}
 use Rattle.counts.proofs.levels.levels_fit.Goals as goal
 
 pub loop-k-init : goal.loop-k-init

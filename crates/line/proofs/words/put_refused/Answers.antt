@@ -6,6 +6,9 @@ use Rattle.line.proofs.words.put_refused.Goals as goal
 
 pub returns : goal.returns
 unfolding line
-returns c = record { puts = both c.put_bytes-at.ensures
+returns c = record {
+  puts = both c.put_bytes-at.ensures
       (both c.put_number-at.ensures.puts
-      (both c.put_number-at-2.ensures.puts c.put_byte.ensures)); upper_bound = search rules }
+      (both c.put_number-at-2.ensures.puts c.put_byte.ensures));
+  upper_bound = search rules;
+}

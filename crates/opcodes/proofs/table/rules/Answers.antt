@@ -1,6 +1,6 @@
 -- `opcodes::rules` meets its contract. The loop's invariant: the rules in front of k stand in their places. Assumes
 -- nothing.
-use Prim.Native.Nat.{◌-◌, ◌<◌}
+use Prim.Native.Nat.{◌<◌}
 use mathlib.Core.Path.{refl, ap}
 use native.Mathlib.Omega.{arith}
 use lib.ListN.{length}

@@ -1,5 +1,4 @@
 use Prim.Native.Nat.{◌-◌}
-use borrow.Author.Rules.{rules}
 use lib.ListN.{length}
 use Rattle.opcodes.specs.Page.{page}
 use Rattle.opcodes.proofs.Rows.{Filled}

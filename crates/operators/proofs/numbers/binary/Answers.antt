@@ -2,12 +2,11 @@
 use Prim.Native.Nat.{ℕ, ◌-◌}
 use mathlib.Core.List.{List}
 use mathlib.Core.Path.{◌≡◌, ap, sym, ◌∙◌}
-use mathlib.Core.Bool.{Bool, true, false, ◌&&◌}
+use mathlib.Core.Bool.{Bool, ◌&&◌}
 use native.Mathlib.Omega.{arith}
-use lib.Dec.{leb, ltb}
+use lib.Dec.{leb}
 use lib.IntN.{ℤ, pos}
 use lib.ListN.{get_or}
-use lib.Signed.{mag}
 use Rattle.arithmetic.specs.Arithmetic.{eq_z}
 use Rattle.machine.specs.Size.{stack_at}
 use Rattle.cells.proofs.Fits.{fits_unless, narrow_is, narrows}
@@ -34,8 +33,8 @@ divisor c = c.lacks_divisor.ensures ∙ ap (lacking c.args.op) (read_back c.peek
 number : (c : After-compute-v) →
     c.compute-v.result
     ≡ computed c.args.op
-      (cell c.args.store.now c.args.size c.args.t c.args.c.cells 2)
-      (cell c.args.store.now c.args.size c.args.t c.args.c.cells 1)
+    (cell c.args.store.now c.args.size c.args.t c.args.c.cells 2)
+    (cell c.args.store.now c.args.size c.args.t c.args.c.cells 1)
 number c =
     rw (read_back c.peek-below.type_inv c.peek-below.ensures, read_back c.peek-top.type_inv c.peek-top.ensures) at
     c.compute-v.ensures
@@ -58,7 +57,6 @@ compute-v-requires c =
       fact = rw (read_back c.peek-top.type_inv c.peek-top.ensures) (not_lacking c.args.op _ lacks);
     }
 
-
 pub returns-then-not-fits : goal.returns-then-not-fits
 returns-then-not-fits c n =
     let lacks = sym (divisor (goal.at.returns-then-not-fits c).After-lacks_divisor) ∙ c.if-lacks_divisor.false in
@@ -67,12 +65,10 @@ returns-then-not-fits c n =
     rw c.stopped-then-not-fits.ensures
     (refused λ tables values r. binary_out _ n _ _ _ c.requires.le_op c.requires.op_bound c.if-cells-lt2.false lacks out)
 
-
 pub overflow_cast-v : goal.overflow_cast-v
 overflow_cast-v c =
     let is = number (goal.at.overflow_cast-v c).After-compute-v in
     narrows c.compute-v.type_inv is (fits_unless c.compute-v.type_inv is c.fits.ensures c.if-not-fits.false-raw)
-
 
 pub returns : goal.returns
 returns c n =
@@ -81,4 +77,4 @@ returns c n =
     let within = fits_unless c.compute-v.type_inv is c.fits.ensures c.if-not-fits.false-raw in
     rw (c.done.ensures, c.poke.ensures, narrow_is c.compute-v.type_inv is within)
     (carried_out λ tables values r.
-      binary_in _ n _ _ _ c.requires.le_op c.requires.op_bound c.if-cells-lt2.false lacks within)
+    binary_in _ n _ _ _ c.requires.le_op c.requires.op_bound c.if-cells-lt2.false lacks within)

@@ -1,12 +1,9 @@
 -- `operators::single::neg` meets its contract. Assumes nothing.
 use Prim.Native.Nat.{◌-◌}
 use mathlib.Core.Path.{◌≡◌, ◌∙◌}
-use mathlib.Core.Bool.{true, false}
 use native.Mathlib.Omega.{arith}
-use lib.Dec.{ltb}
-use lib.IntN.{ℤ, pos, neg_ℤ}
+use lib.IntN.{pos, neg_ℤ}
 use lib.ListN.{get_or}
-use lib.Signed.{mag}
 use Rattle.machine.specs.Size.{stack_at}
 use Rattle.machine.proofs.Equations.{neg_is}
 use Rattle.cells.proofs.Fits.{fits_unless, narrow_is, narrows}

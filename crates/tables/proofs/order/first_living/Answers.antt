@@ -1,5 +1,4 @@
 -- `tables::order::first_living` meets its contract. Assumes nothing.
-use Prim.Native.Nat.{◌-◌}
 use native.Mathlib.Omega.{arith}
 use Rattle.tables.proofs.Idle.{idle_on}
 use Rattle.tables.proofs.Line.{member}

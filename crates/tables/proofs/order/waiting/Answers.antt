@@ -1,6 +1,4 @@
 -- `tables::order::waiting` meets its contract. Assumes nothing.
-use Prim.Native.Nat.{◌-◌}
-use mathlib.Core.Logic.{⊎_elim}
 use mathlib.Core.Path.{ap}
 use native.Mathlib.Omega.{arith}
 use lib.ListN.{length}
@@ -25,8 +23,9 @@ loop-j-preserved c =
     let below = c.loop-j-test.true in
     let there = c.in_line-i.ensures in
     elim c.if-tables-t.branch [
-      then-tables-t w ↦ omega (arith, ap length (entry_in _ _ c.requires c.args.place _ _ below there w.if-tables-t.true))
-    | else-tables-t w ↦ omega (arith, ap length (entry_out _ _ c.requires c.args.place _ _ below there w.if-tables-t.false)) ]
+      | then-tables-t w ↦ omega (arith, ap length (entry_in _ _ c.requires c.args.place _ _ below there w.if-tables-t.true))
+      | else-tables-t w ↦ omega (arith, ap length (entry_out _ _ c.requires c.args.place _ _ below there w.if-tables-t.false))
+    ]
 
 pub returns : goal.returns
 returns c = omega (arith, c.loop-j.invariant.1, ap length (queue_end _ _ c.requires c.args.place _ c.loop-j-test.false))

@@ -1,10 +1,8 @@
 -- `tables::threads::any_live` meets its contract. Assumes nothing.
-use Prim.Native.Nat.{◌-◌}
 use mathlib.Core.Path.{sym, ◌∙◌}
-use mathlib.Core.Bool.{false}
 use native.Mathlib.Omega.{arith}
 use borrow.Author.Count.{below_more, below_none}
-use Rattle.machine.specs.Tables.{any_live, lives}
+use Rattle.machine.specs.Tables.{any_live}
 use Rattle.machine.proofs.Every.{false_some, true_some}
 use Rattle.tables.proofs.threads.any_live.Goals as goal
 

@@ -1,11 +1,8 @@
 -- `wellformed::owners::owners_fit` meets its contract. Assumes nothing.
 use borrow.Author.Tests.{not-true, not-false}
 use native.Mathlib.Omega.{arith}
-use Prim.Native.Nat.{◌-◌}
 use mathlib.Core.Path.{sym, ◌∙◌}
-use mathlib.Core.Bool.{true}
 use Rattle.ranges.proofs.Loops.{every_all, every_more, every_none, every_stop}
-use Rattle.machine.specs.WellFormed.{owner_fits}
 use Rattle.wellformed.proofs.owners.owners_fit.Goals as goal
 
 pub loop-m-init : goal.loop-m-init

@@ -1,11 +1,8 @@
 -- `wellformed::places::threads_fit` meets its contract. Assumes nothing.
 use borrow.Author.Tests.{not-true, not-false}
 use native.Mathlib.Omega.{arith}
-use Prim.Native.Nat.{◌-◌}
 use mathlib.Core.Path.{sym, ◌∙◌}
-use mathlib.Core.Bool.{true}
 use Rattle.ranges.proofs.Loops.{every_all, every_more, every_none, every_stop}
-use Rattle.machine.specs.WellFormed.{thread_fits}
 use Rattle.wellformed.proofs.places.threads_fit.Goals as goal
 
 pub loop-t-init : goal.loop-t-init

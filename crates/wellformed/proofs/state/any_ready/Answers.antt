@@ -1,9 +1,7 @@
 -- `wellformed::state::any_ready` meets its contract. Assumes nothing.
 use borrow.Author.Tests.{eq-eqb, ne_eqb}
 use native.Mathlib.Omega.{arith}
-use Prim.Native.Nat.{◌-◌}
 use mathlib.Core.Path.{sym}
-use mathlib.Core.Bool.{false}
 use Rattle.machine.proofs.Every.{false_some, true_some}
 use Rattle.machine.proofs.Lists.{same_or_not}
 use Rattle.wellformed.proofs.state.any_ready.Goals as goal
