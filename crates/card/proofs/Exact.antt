@@ -12,11 +12,9 @@ use Rattle.opcodes.proofs.Each.{never}
 use Rattle.instruction.specs.Rules.{Verdict}
 use Rattle.instruction.specs.Word.{opcode_of, operand_of}
 use Rattle.instruction.proofs.Checks.{against, fine, over}
-use Rattle.card.specs.Code.{scan_of}
+use Rattle.card.specs.Code.{Scan, Fine, Bad, scan_of}
 use Rattle.card.specs.Exact.{Exact, Exactly, checked}
 use Rattle.card.specs.Image.{last_of}
-use Rattle.card.specs.declared.scan.Scan.{Scan}
-use Rattle.card.specs.declared.scan.Scan.TheVariants.{Fine, Bad}
 
 -- what a search found has one number, and none where it found nothing
 abbrev number_of : Scan → ℕ
@@ -29,7 +27,7 @@ apart s t e h = absurd (h (ap number_of e))
 
 module _ (n w index : ℕ) where
   abbrev ruling : Bool
-  ruling = allows (entry_of (opcode_of w)).2 (last_of n) (operand_of w)
+  ruling = allows (entry_of (opcode_of w)).rule (last_of n) (operand_of w)
 
   by : (t : Bool) → ltb last_opcode (opcode_of w) ≡ t → (b : Bool) → ruling ≡ b → Exactly n w index
   by true t b e =

@@ -8,11 +8,9 @@ use lib.Dec.{ltb, eqb}
 use lib.IntN.{ℤ}
 use lib.ListN.{length, drop}
 use borrow.Author.Tests.{ltb-false, eqb-true, not-false, le-ltb, eq-eqb}
-use Rattle.card.specs.Code.{first_bad, words_of}
+use Rattle.card.specs.Code.{Scan, Fine, Bad, first_bad, words_of}
 use Rattle.card.specs.Image.{Headed, cells_of, code_of, count_of, following_of, version_of, length_wrong, version_wrong, out_of_range, sizes_wrong, header_size, last_of, placed, read_code, read_of}
 use Rattle.card.specs.Result.{gives, refuses}
-use Rattle.card.specs.declared.scan.Scan.{Scan}
-use Rattle.card.specs.declared.scan.Scan.TheVariants.{Fine, Bad}
 use Rattle.card.proofs.Search.{found_number}
 
 -- both tests failed

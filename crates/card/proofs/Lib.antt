@@ -2,3 +2,4 @@ pub mod Words
 pub mod Search
 pub mod Header
 pub mod Exact
+pub mod Refused

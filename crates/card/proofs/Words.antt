@@ -1,6 +1,6 @@
 -- Laws of a code part's words: the word at an index is the number of its four bytes, and there is a word for each four bytes.
 -- Assumes nothing.
-use Prim.Native.Nat.{ℕ, zero, suc, ◌+◌, ◌*◌, ◌-◌, ◌≤◌, ◌<◌}
+use Prim.Native.Nat.{ℕ, zero, suc, ◌+◌, ◌*◌, ◌-◌, ◌/◌, ◌≤◌, ◌<◌}
 use mathlib.Core.Path.{◌≡◌, refl, sym, ap, ◌∙◌}
 use mathlib.Core.List.{List, [], ◌∷◌}
 use native.Mathlib.Nat.{add_assoc}
@@ -39,12 +39,15 @@ word (a ∷ b ∷ c ∷ d ∷ s) (suc i) h =
     let r = word s i (omega arith) in
     record { there = omega (arith, r.there); is = r.is ∙ sym (next_word a b c d s i) }
 
--- a code part of 4n bytes has n words
-pub count : (code : List ℕ) (n : ℕ) → length code ≡ 4 * n → length (words_of code) ≡ n
+-- it has a word for each four bytes
+pub length_words : (code : List ℕ) → length (words_of code) ≡ length code / 4
 unfolding words_of
-count [] n h = omega arith
-count (a ∷ []) n h = absurd (omega arith)
-count (a ∷ b ∷ []) n h = absurd (omega arith)
-count (a ∷ b ∷ c ∷ []) n h = absurd (omega arith)
-count (a ∷ b ∷ c ∷ d ∷ s) zero h = absurd (omega arith)
-count (a ∷ b ∷ c ∷ d ∷ s) (suc n) h = ap suc (count s n (omega arith))
+length_words [] = refl
+length_words (a ∷ []) = refl
+length_words (a ∷ b ∷ []) = refl
+length_words (a ∷ b ∷ c ∷ []) = refl
+length_words (a ∷ b ∷ c ∷ d ∷ s) = omega (arith, length_words s)
+
+-- so one of 4n bytes has n words
+pub count : (code : List ℕ) (n : ℕ) → length code ≡ 4 * n → length (words_of code) ≡ n
+count code n h = omega (arith, length_words code, h)

@@ -1,13 +1,14 @@
 -- The instructions of a card as words, four bytes each, and the first bad one of them.
-use Rattle.std.specs.Prelude.{ℕ, suc, ◌*◌, ◌<◌, ◌≤◌, List, [], ◌∷◌, ◌≡◌, ℤ, get_or, length}
+use Rattle.std.specs.Prelude.{ℕ, suc, ◌*◌, ◌<◌, ◌≤◌, List, [], ◌∷◌, ◌≡◌, ℤ, Ok, Err, get_or, length}
 use Rattle.instruction.specs.Bytes.{word_at}
 use Rattle.instruction.specs.Rules.{check_of}
 use Rattle.instruction.specs.Word.{opcode_of, operand_of}
 use Rattle.instruction.specs.Rules.{Verdict}
 use Rattle.instruction.specs.Rules as verdict
 use Rattle.card.specs.declared.fetching.Instruction.{Instruction}
-use Rattle.card.specs.declared.scan.Scan.{Scan}
-use Rattle.card.specs.declared.scan.Scan.TheVariants.{Fine, Bad}
+use Rattle.card.specs.declared.refusals.Refusal.{Refusal}
+use Rattle.card.specs.Result.{number}
+use Rattle.std.specs.declared.result.Result as code
 
 -- "n instructions of 4 bytes": the words of a code part
 unfoldable pub words_of : List ℕ → List ℕ
@@ -30,6 +31,16 @@ pub record Unpacked (code : List ℕ) (n : ℕ) (words : List ℕ) (k : ℕ) : T
   pub all : 1 ≤ k → k ≡ n
   pub long : k ≤ length words
   pub word : (i : ℕ) → i < k → get_or words i 0 ≡ word_at code (4 * i)
+
+-- what the search for the first bad instruction finds: its number and its index, if there is one
+pub data Scan : Type 0 where
+  Fine : Scan
+  Bad : ℕ → ℕ → Scan
+
+-- the answer of a search in code, whose place is the index
+abbrev pub found : {A : Type 0} → code.Result A Refusal → Scan
+found (Ok x) = Fine
+found (Err r) = Bad (number r.reason) r.place
 
 -- number 4, "4 now from opcode 41", and number 5, "operand against its rule"
 abbrev pub scan_of : Verdict → ℕ → Scan

@@ -2,12 +2,8 @@
 use Rattle.std.specs.Prelude.{ℕ, ◌+◌, ◌*◌, ◌≤◌, Bool, cond, not, ◌||◌, List, [], ◌≡◌, refl, ltb, eqb, ℤ, pos, ◌-ℤ◌, length, drop}
 use Rattle.std.specs.Borrow.{Bor}
 use Rattle.instruction.specs.Bytes.{byte_of, half_at, word_at}
-use Rattle.card.specs.Code.{words_of, first_bad}
+use Rattle.card.specs.Code.{Scan, Fine, Bad, words_of, first_bad}
 use Rattle.card.specs.Result.{Result, gives, refuses}
-use Rattle.card.specs.declared.scan.Scan.{Scan}
-use Rattle.card.specs.declared.scan.Scan.TheVariants.{Fine, Bad}
-use Rattle.card.specs.declared.reader.Reading.{Reading}
-use Rattle.card.specs.declared.reader.Reading.TheVariants.{Accepted, Refused}
 
 -- "4 bytes L, the number of bytes that follow"
 abbrev pub following_of : List ℕ → ℕ
@@ -75,11 +71,6 @@ read_of image =
     (cond (version_wrong image) (refuses 2 4)
     (cond (sizes_wrong image) (refuses 3 5)
     (read_code image)))
-
--- the number, place and g of each case of the reader's enum
-abbrev pub told : Reading → Result
-told (Accepted cells) = gives cells
-told (Refused number place) = refuses number place
 
 -- an image whose header is right, as far as the instructions' reading needs it
 pub record Headed (image : List ℕ) : Type 0 where

@@ -3,6 +3,8 @@
 ghost use Rattle.std.specs.Prelude.{◌≡◌, ◌+◌, ◌*◌, ◌≤◌, length};
 ghost use Rattle.card.specs.Code.{Unpacked, instruction_at};
 
+use crate::word_list::{CodeWords, WordList};
+
 // An instruction taken apart.
 #[derive(Clone, Copy)]
 pub struct Instruction {
@@ -14,10 +16,11 @@ pub fn fetch(code: &[u8], at: usize) -> Instruction
     requires { 4 * at + 4 ≤ length code.now }
     ensures { result ≡ instruction_at code.now at }
 {
-    let w = instruction::word_at(code, 4 * at);
-    let opcode = instruction::opcode(w);
-    let operand = instruction::operand(w);
-    Instruction { opcode, operand }
+    let w = CodeWords(code).word(at);
+    Instruction {
+        opcode: instruction::opcode(w),
+        operand: instruction::operand(w),
+    }
 }
 
 // Unpacks the `n` instructions of a code part, or none where there is no room for all: so many were unpacked.
@@ -28,10 +31,8 @@ pub fn unpack(code: &[u8], n: usize, words: &mut [u32]) -> usize
     if words.len() < n {
         return 0;
     }
-    let mut i = 0;
-    while i < n {
-        words[i] = instruction::word_at(code, 4 * i);
-        i += 1;
+    for (i, w) in words[..n].iter_mut().enumerate() {
+        *w = CodeWords(code).word(i);
     }
     n
 }

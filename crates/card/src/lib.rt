@@ -2,12 +2,15 @@
 // input. The others are inner, for the writer and the machine.
 #![tactic(auto)]
 
+mod checking;
 mod fetching;
 pub mod layout;
 mod reader;
-pub mod refusals;
-mod scan;
+mod refusals;
+mod word_list;
 
+pub use checking::scan;
 pub use fetching::{Instruction, fetch, unpack};
-pub use reader::{Reading, code_part, last_of, out_of_range, read};
-pub use scan::{Scan, scan_words};
+pub use reader::{code_part, last_of, out_of_range, read};
+pub use refusals::{Reason, Refusal, refuse_if};
+pub use word_list::{CodeWords, WordList};

@@ -1,17 +1,12 @@
 // The reader of card images.
 ghost use Rattle.std.specs.Prelude.{◌≡◌, ◌+◌, ◌*◌, ◌≤◌, ◌<◌, length};
-ghost use Rattle.card.specs.Image.{CodePart, Headed, last_of, length_wrong, out_of_range, read_code, read_of, sizes_wrong, told};
+ghost use Rattle.card.specs.Image.{CodePart, Headed, last_of, length_wrong, out_of_range, read_code, read_of, sizes_wrong};
+ghost use Rattle.card.specs.Result.{told};
 
-use crate::scan::Scan;
-use crate::{layout, refusals};
-
-// The reader's answer.
-#[derive(Clone, Copy)]
-pub enum Reading {
-    // The number of global cells that the card asks for.
-    Accepted { cells: u32 },
-    Refused { number: u32, place: usize },
-}
+use crate::checking::scan;
+use crate::layout;
+use crate::refusals::{Reason, Refusal, refuse_if};
+use crate::word_list::CodeWords;
 
 // Global cells and instructions are each 1 to 4,096.
 pub fn out_of_range(x: usize) -> bool
@@ -37,13 +32,7 @@ fn wrong_sizes(image: &[u8]) -> bool
     let cells = instruction::half_at(image, layout::CELLS) as usize;
     let n = instruction::half_at(image, layout::COUNT) as usize;
     let following = instruction::word_at(image, 0) as usize;
-    if out_of_range(cells) {
-        return true;
-    }
-    if out_of_range(n) {
-        return true;
-    }
-    following != 5 + 4 * n
+    out_of_range(cells) || out_of_range(n) || following != 5 + 4 * n
 }
 
 // The number of the last of n instructions.
@@ -55,43 +44,31 @@ pub fn last_of(n: usize) -> i32
 }
 
 // Reads the instructions of an image whose header is right.
-fn read_code(image: &[u8]) -> Reading
+fn read_code(image: &[u8]) -> Result<u32, Refusal>
     requires { Headed image.now }
-    ensures { told result ≡ read_code image.now }
+    ensures { told (λ cells. cells) result ≡ read_code image.now }
 {
     let n = instruction::half_at(image, layout::COUNT) as usize;
-    match crate::scan::scan_code(&image[layout::CODE..], n, last_of(n)) {
-        Scan::Bad { number, index } => Reading::Refused {
-            number,
-            place: layout::CODE + 4 * index,
-        },
-        Scan::Fine => Reading::Accepted {
-            cells: instruction::half_at(image, layout::CELLS),
-        },
+    match scan(&CodeWords(&image[layout::CODE..]), last_of(n)) {
+        Ok(()) => Ok(instruction::half_at(image, layout::CELLS)),
+        Err(bad) => Err(Refusal {
+            place: layout::CODE + 4 * bad.place,
+            ..bad
+        }),
     }
 }
 
-pub fn read(image: &[u8]) -> Reading
-    ensures { told result ≡ read_of image.now }
+// The number of global cells that the card asks for.
+pub fn read(image: &[u8]) -> Result<u32, Refusal>
+    ensures { told (λ cells. cells) result ≡ read_of image.now }
 {
-    if wrong_length(image) {
-        return Reading::Refused {
-            number: refusals::LENGTH,
-            place: 0,
-        };
-    }
-    if image[layout::VERSION] != layout::THE_VERSION {
-        return Reading::Refused {
-            number: refusals::VERSION,
-            place: layout::VERSION,
-        };
-    }
-    if wrong_sizes(image) {
-        return Reading::Refused {
-            number: refusals::SIZES,
-            place: layout::CELLS,
-        };
-    }
+    refuse_if(wrong_length(image), Reason::Length, 0)?;
+    refuse_if(
+        image[layout::VERSION] != layout::THE_VERSION,
+        Reason::Version,
+        layout::VERSION,
+    )?;
+    refuse_if(wrong_sizes(image), Reason::Sizes, layout::CELLS)?;
     read_code(image)
 }
 
@@ -100,10 +77,7 @@ pub fn code_part(image: &[u8]) -> &[u8]
     ensures { CodePart image.entry result }
 {
     match read(image) {
-        Reading::Accepted { cells: _ } => &image[layout::CODE..],
-        Reading::Refused {
-            number: _,
-            place: _,
-        } => &image[..0],
+        Ok(_) => &image[layout::CODE..],
+        Err(_) => &image[..0],
     }
 }

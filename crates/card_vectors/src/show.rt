@@ -1,6 +1,5 @@
 // Lines that say what the reader and the writer answer.
-use card::Reading;
-use writer::Writing;
+use card::Refusal;
 
 // A text that can't be written is missing from what is compared.
 fn text(rt: &impl Print, s: &[u8]) {
@@ -11,11 +10,11 @@ fn number(rt: &impl Print, n: u64) {
     let _ = rt.print(n);
 }
 
-fn refusal(rt: &impl Print, no: u32, place: usize) {
+fn refusal(rt: &impl Print, r: Refusal) {
     text(rt, b"refused ");
-    number(rt, no as u64);
+    number(rt, r.reason.number() as u64);
     text(rt, b" at ");
-    number(rt, place as u64);
+    number(rt, r.place as u64);
 }
 
 // The reader's answer, and the size of the code part.
@@ -23,11 +22,11 @@ pub fn reading(rt: &impl Print, label: &[u8], image: &[u8]) {
     text(rt, label);
     text(rt, b": ");
     match card::read(image) {
-        Reading::Accepted { cells } => {
+        Ok(cells) => {
             text(rt, b"accepted, cells ");
             number(rt, cells as u64);
         }
-        Reading::Refused { number: no, place } => refusal(rt, no, place),
+        Err(r) => refusal(rt, r),
     }
     text(rt, b", code of ");
     number(rt, card::code_part(image).len() as u64);
@@ -50,11 +49,11 @@ pub fn writing(rt: &impl Print, label: &[u8], cells: usize, list: &[u32], out: &
     text(rt, label);
     text(rt, b": ");
     match writer::write(cells, list, out) {
-        Writing::Written { size } => {
+        Ok(size) => {
             text(rt, b"written ");
             number(rt, size as u64);
         }
-        Writing::Refused { number: no, place } => refusal(rt, no, place),
+        Err(r) => refusal(rt, r),
     }
     if out.len() <= 24 {
         text(rt, b", buffer ");

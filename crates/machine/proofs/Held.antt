@@ -14,7 +14,7 @@ use Rattle.card.proofs.Words.{count as count_words}
 use Rattle.card.specs.Code.{first_bad, words_of}
 use Rattle.instruction.proofs.Checks.{passed}
 use Rattle.card.specs.Image.{count_of, last_of, read_of}
-use Rattle.card.specs.declared.scan.Scan.TheVariants as scan
+use Rattle.card.specs.Code as scan
 use Rattle.card.specs.Result as result
 use Rattle.machine.specs.Book.{Book, Permits, book_of}
 use Rattle.machine.specs.Calls.{Box, Called, Report, accepted, answer_of, box_of, card_of, faulted_by, in_state, ran_of, refused_by, refused_state, refused, run_call, set_up, state_of, step_call, store_fits}

@@ -16,10 +16,9 @@ use Rattle.instruction.specs.Word.{opcode_of, operand_of}
 use Rattle.instruction.specs.Rules.{Verdict, check_of}
 use Rattle.instruction.specs.Rules as verdict
 use Rattle.instruction.proofs.Checks.{passed}
-use Rattle.card.specs.Code.{first_bad, or_else, scan_of}
+use Rattle.card.specs.Code.{Scan, first_bad, or_else, scan_of}
 use Rattle.card.specs.Image.{last_of}
-use Rattle.card.specs.declared.scan.Scan.{Scan}
-use Rattle.card.specs.declared.scan.Scan.TheVariants as scan
+use Rattle.card.specs.Code as scan
 use Rattle.machine.specs.Instructions.{Instruction, decoded, instruction_of, opcodes}
 use Rattle.machine.specs.Instructions as instr
 use Rattle.machine.specs.Lists.{every}

@@ -58,13 +58,13 @@ same_rule_lem ZeroToNMinus1 (FromTo low high) e = never e
 same_rule_lem ZeroToNMinus1 ZeroToNMinus1 e = refl
 
 abbrev pub same_entry : Entry → Entry → Bool
-same_entry a b = eqb a.0 b.0 && (same a.1 b.1 && same_rule a.2 b.2)
+same_entry a b = eqb a.number b.number && (same a.name b.name && same_rule a.rule b.rule)
 
 pub same_entry_lem : (a b : Entry) → same_entry a b ≡ true → a ≡ b
 same_entry_lem a b e =
-    let p = and_true (eqb a.0 b.0) (same a.1 b.1 && same_rule a.2 b.2) e in
-    let q = and_true (same a.1 b.1) (same_rule a.2 b.2) p.1 in
-    cong (eqb-true a.0 b.0 p.0) (same_is a.1 b.1 q.0) (same_rule_lem a.2 b.2 q.1)
-  where
-    cong : a.0 ≡ b.0 → a.1 ≡ b.1 → a.2 ≡ b.2 → a ≡ b
-    cong number name rule = λ i. record { 0 = number i; 1 = name i; 2 = rule i }
+    let p = and_true (eqb a.number b.number) (same a.name b.name && same_rule a.rule b.rule) e in
+    let q = and_true (same a.name b.name) (same_rule a.rule b.rule) p.1 in
+    let number = eqb-true a.number b.number p.0 in
+    let name = same_is a.name b.name q.0 in
+    let rule = same_rule_lem a.rule b.rule q.1 in
+    λ i. record { number = number i; name = name i; rule = rule i }

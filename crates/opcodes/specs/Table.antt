@@ -11,7 +11,7 @@ padded name = take 10 (name ++ bytes "          ")
 
 -- the entry that an opcode's line is
 abbrev pub entry_of : ℕ → Entry
-entry_of opcode = record { 0 = (line_of opcode).number; 1 = padded (name_of opcode); 2 = rule_of opcode }
+entry_of opcode = record { number = (line_of opcode).number; name = padded (name_of opcode); rule = rule_of opcode }
 
 -- the entry of each opcode is its line, and there are no others
 pub record IsPage (table : List Entry) : Type 0 where

@@ -6,11 +6,10 @@ use native.Mathlib.Omega.{arith}
 use lib.ListN.{length, get_or, drop, length-drop}
 use lib.Seq.{drop-cons, get_or-drop, take_at}
 use Rattle.instruction.specs.Bytes.{half_at, word_at, half_bytes, word_bytes}
-use Rattle.card.specs.Code.{first_bad, words_of}
+use Rattle.card.specs.Code.{Fine, first_bad, words_of}
 use Rattle.card.specs.Image.{cells_of, code_of, count_of, following_of, image_size, last_of, read_of}
 use Rattle.card.specs.Result.{gives}
 use Rattle.writer.specs.Writing.{image_of, words_bytes, write_of}
-use Rattle.card.specs.declared.scan.Scan.TheVariants.{Fine}
 use Rattle.writer.specs.RoundTrip.{Each, WrittenIsRead, ReadIsWritten}
 use Rattle.card.proofs.Header.{Accepts, InRange, accepted, accepts, code_part}
 use Rattle.writer.proofs.Success.{Writes, succeeds, writes}

@@ -7,12 +7,10 @@ use native.Mathlib.Omega.{arith}
 use lib.Dec.{ltb}
 use lib.ListN.{length}
 use borrow.Author.Tests.{ltb-false, le-ltb}
-use Rattle.card.specs.Code.{first_bad}
+use Rattle.card.specs.Code.{Scan, Fine, Bad, first_bad}
 use Rattle.card.specs.Image.{image_size, last_of, out_of_range}
 use Rattle.card.specs.Result.{Result, gives, refuses}
 use Rattle.writer.specs.Writing.{after_list, write_of}
-use Rattle.card.specs.declared.scan.Scan.{Scan}
-use Rattle.card.specs.declared.scan.Scan.TheVariants.{Fine, Bad}
 use Rattle.card.proofs.Header.{InRange, in_range, neither, not_out, or_false}
 
 pub record Writes (cells : ℕ) (list : List ℕ) (room size : ℕ) : Type 0 where

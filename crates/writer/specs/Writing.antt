@@ -2,13 +2,11 @@
 -- image stay."
 use Rattle.std.specs.Prelude.{ℕ, ◌+◌, ◌*◌, cond, ◌||◌, List, [], ◌∷◌, ◌++◌, ◌≡◌, ltb, length, drop}
 use Rattle.instruction.specs.Bytes.{half_bytes, word_bytes}
-use Rattle.card.specs.Code.{first_bad}
+use Rattle.std.specs.declared.result.Result as code
+use Rattle.card.specs.Code.{Scan, Fine, Bad, first_bad}
 use Rattle.card.specs.Image.{image_size, last_of, out_of_range}
-use Rattle.card.specs.Result.{Result, gives, refuses}
-use Rattle.card.specs.declared.scan.Scan.{Scan}
-use Rattle.card.specs.declared.scan.Scan.TheVariants.{Fine, Bad}
-use Rattle.writer.specs.declared.Writing.{Writing}
-use Rattle.writer.specs.declared.Writing.TheVariants.{Written, Refused}
+use Rattle.card.specs.Result.{Result, gives, refuses, told}
+use Rattle.card.specs.declared.refusals.Refusal.{Refusal}
 
 -- "Big-endian: 4 bytes L ..; version byte 1; 2 bytes g ..; 2 bytes n", with "L = 5 + 4n"
 abbrev pub header_of : ℕ → ℕ → List ℕ
@@ -42,12 +40,7 @@ abbrev pub buffer_of : Result → ℕ → List ℕ → List ℕ → List ℕ
 buffer_of (gives size) cells list buffer = image_of cells list ++ drop size buffer
 buffer_of (refuses number place) cells list buffer = buffer
 
--- the number, place and size of each case of the writer's enum
-abbrev pub told : Writing → Result
-told (Written size) = gives size
-told (Refused number place) = refuses number place
-
 -- the writer's promise: its answer, and the buffer that it leaves
-pub record Wrote (cells : ℕ) (list before : List ℕ) (answer : Writing) (after : List ℕ) : Type 0 where
-  pub answered : told answer ≡ write_of cells list (length before)
+pub record Wrote (cells : ℕ) (list before : List ℕ) (answer : code.Result ℕ Refusal) (after : List ℕ) : Type 0 where
+  pub answered : told (λ size. size) answer ≡ write_of cells list (length before)
   pub left : after ≡ buffer_of (write_of cells list (length before)) cells list before

@@ -5,15 +5,7 @@ ghost use Rattle.std.specs.Prelude.{◌≡◌, ◌+◌, ◌*◌, ◌≤◌, leng
 ghost use Rattle.std.proofs.lemmas.List.Edits.{sets};
 ghost use Rattle.writer.specs.Writing.{Wrote, header_of, words_bytes};
 
-use card::{Scan, layout, refusals};
-
-// The writer's answer.
-#[derive(Clone, Copy)]
-pub enum Writing {
-    // The image's size in bytes.
-    Written { size: usize },
-    Refused { number: u32, place: usize },
-}
+use card::{Reason, Refusal, layout, refuse_if};
 
 // Writes the nine bytes before the instructions.
 fn put_header(out: &mut [u8], cells: u32, n: u32)
@@ -38,37 +30,18 @@ fn put_code(out: &mut [u8], list: &[u32])
     }
 }
 
-// Writes the image of a card with `cells` global cells and the instructions of `list`, each a word.
-pub fn write(cells: usize, list: &[u32], out: &mut [u8]) -> Writing
+// Writes the image of a card with `cells` global cells and the instructions of `list`, each a word, and answers its
+// size in bytes.
+pub fn write(cells: usize, list: &[u32], out: &mut [u8]) -> Result<usize, Refusal>
     ensures { Wrote cells list.now out.old result out.new }
 {
     let n = list.len();
-    if card::out_of_range(cells) {
-        return Writing::Refused {
-            number: refusals::SIZES,
-            place: layout::CELLS,
-        };
-    }
-    if card::out_of_range(n) {
-        return Writing::Refused {
-            number: refusals::SIZES,
-            place: layout::CELLS,
-        };
-    }
-    if let Scan::Bad { number, index } = card::scan_words(list, card::last_of(n)) {
-        return Writing::Refused {
-            number,
-            place: index,
-        };
-    }
+    refuse_if(card::out_of_range(cells), Reason::Sizes, layout::CELLS)?;
+    refuse_if(card::out_of_range(n), Reason::Sizes, layout::CELLS)?;
+    card::scan(&list, card::last_of(n))?;
     let size = layout::CODE + 4 * n;
-    if out.len() < size {
-        return Writing::Refused {
-            number: refusals::NO_ROOM,
-            place: 0,
-        };
-    }
+    refuse_if(out.len() < size, Reason::NoRoom, 0)?;
     put_header(out, cells as u32, n as u32);
     put_code(out, list);
-    Writing::Written { size }
+    Ok(size)
 }
