@@ -34,13 +34,5 @@ pub fn levels_fit(r: Registers, tables: &[usize], values: &[i32], size: usize) -
     requires values_len { length values.now ≡ 2 * size }
     ensures { result ≡ every r.semaphores (level_fits size (tables_of size tables.now) values.now) }
 {
-    let made = r.semaphores;
-    let mut k = 0;
-    while k < made {
-        if !level_fits(tables, values, size, Semaphore(k)) {
-            return false;
-        }
-        k += 1;
-    }
-    true
+    (0..r.semaphores).all(|k| level_fits(tables, values, size, Semaphore(k)))
 }

@@ -9,8 +9,7 @@ use lib.ListN.{get_or, length, set}
 use Rattle.machine.specs.Size.{stack_at}
 use Rattle.machine.specs.State.{delivered, saved_top}
 use Rattle.machine.specs.Tables.{Tables, active, place_of, queue, ready, sent, tables_of, wake_all}
-use Rattle.machine.specs.declared.numbers.First.{First}
-use Rattle.machine.specs.declared.numbers.First.TheVariants.{Waiter, Nobody}
+use Rattle.std.specs.Prelude.{Option, Some, None}
 use Rattle.machine.specs.declared.numbers.Thread.{Thread}
 use Rattle.machine.proofs.Queues.{first_at, sent_here, sent_saved, sent_there}
 use Rattle.machine.proofs.Slices.{slice_sizes}
@@ -38,19 +37,19 @@ same_depths size v tables tables' (t ∷ rest) store e =
     same_depths size v tables tables' rest (set store (saved_top size tables' t) v) e
     ∙ ap (λ (depths : List ℕ). delivered size tables v rest (set store (stack_at size t (get_or depths t 0 - 1)) v)) e
 
-module _ (size : ℕ) (l l₁ : List ℕ) (from : ℕ) (answer : First) (g : Good size l)
+module _ (size : ℕ) (l l₁ : List ℕ) (from : ℕ) (answer : Option Thread) (g : Good size l)
     (d : Dequeued size l from answer l₁) where
   -- nobody is left
-  pub all_given : (v : ℤ) (store : List ℤ) → answer ≡ Nobody →
+  pub all_given : (v : ℤ) (store : List ℤ) → answer ≡ None →
       delivered size (tables_of size l) v (queue (tables_of size l) from) store ≡ store
   unfolding delivered
-  all_given v store e = rw (none (tables_of size l) from (took_first size l l₁ from answer Nobody d e))
+  all_given v store e = rw (none (tables_of size l) from (took_first size l l₁ from answer None d e))
 
-  module _ (t : Thread) (e : answer ≡ Waiter t) (receivers : Receivers size from (tables_of size l)) where
+  module _ (t : Thread) (e : answer ≡ Some t) (receivers : Receivers size from (tables_of size l)) where
     -- who was taken out has the cells that it had, ..
     kept : (tables_of size l₁).depths ≡ (tables_of size l).depths
     kept =
-        ap (λ (x : Tables). x.depths) (took_tables size l l₁ from answer (Waiter t) d e)
+        ap (λ (x : Tables). x.depths) (took_tables size l l₁ from answer (Some t) d e)
         ∙ (sent_saved (tables_of size l) t.0 active).1
 
     -- .. so there is a top cell
@@ -60,7 +59,7 @@ module _ (size : ℕ) (l l₁ : List ℕ) (from : ℕ) (answer : First) (g : Goo
 
     pub room : (cells : ℕ) → cells ≡ get_or (tables_of size l₁).depths t.0 0 → Room cells
     room cells is =
-        let h = head (tables_of size l) from t (took_first size l l₁ from answer (Waiter t) d e) in
+        let h = head (tables_of size l) from t (took_first size l l₁ from answer (Some t) d e) in
         let there : place_of (tables_of size l) t.0 ≡ from = first_at (tables_of size l) from t.0 h.rest h.is in
         let same : cells ≡ get_or (tables_of size l).depths t.0 0 = is ∙ rw kept in
         let below : t.0 < size = d.real t e in

@@ -4,8 +4,6 @@ ghost use Rattle.machine.specs.Tables.{tables_of};
 ghost use Rattle.tables.specs.Good.{Good};
 ghost use Rattle.endings.specs.Contract.{Delivers, Receivers};
 
-use machine::First;
-
 // All who wait at a place get the result, each in its top cell, and go to the ready tail in their order. Each has
 // such a cell: join needed it, and it stays while the thread waits.
 pub fn deliver(store: &mut [i32], tables: &mut [usize], size: usize, from: usize, v: i32)
@@ -16,7 +14,7 @@ pub fn deliver(store: &mut [i32], tables: &mut [usize], size: usize, from: usize
     ensures { Delivers size from v store.old tables.old store.new tables.new }
 {
     loop {
-        let First::Waiter(t) = tables::dequeue(tables, size, from, 0) else {
+        let Some(t) = tables::dequeue(tables, size, from, 0) else {
             return;
         };
         let cells = tables::saved_cells(tables, size, t);

@@ -20,9 +20,9 @@ use Rattle.machine.specs.Registers.{faulted, halted, running, stuck}
 use Rattle.machine.specs.State.{State, blocked, left, next, next_of, top}
 use Rattle.machine.specs.Step.{entered, executed, onward}
 use Rattle.machine.specs.Tables.{any_live, at_mutex, first, lives, owner_of, ready}
-use Rattle.machine.specs.declared.numbers.First.{First}
-use Rattle.machine.specs.declared.numbers.First.TheVariants.{Waiter, Nobody}
+use Rattle.std.specs.Prelude.{Option, Some, None}
 use Rattle.machine.specs.declared.registers.Registers.{Registers}
+use Rattle.machine.specs.declared.numbers.Thread.{Thread}
 use Rattle.tables.specs.Idle.{Idle}
 use Rattle.threads.proofs.Idle.{idle_yield}
 
@@ -55,9 +55,9 @@ module _ (size n : ℕ) (s : State) where
   unfolding next
   only_next u h = by_first (first u.tables ready)
     where
-      by_first : (f : First) → Only s.regs (next_of size f u).regs
-      by_first (Waiter t) runs = rw h
-      by_first Nobody runs = absurd (stopped_none (any_live size u.tables) runs)
+      by_first : (f : Option Thread) → Only s.regs (next_of size f u).regs
+      by_first (Some t) runs = rw h
+      by_first None runs = absurd (stopped_none (any_live size u.tables) runs)
 
   only_blocked : (u : State) (place : ℕ) → u.regs ≡ in_context s.regs u.regs.thread (context_of u.regs) →
       Only s.regs (blocked size u place).regs

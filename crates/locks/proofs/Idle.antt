@@ -11,11 +11,11 @@ use Rattle.machine.specs.Instructions as instr
 use Rattle.machine.specs.State.{State, top}
 use Rattle.machine.specs.Step.{entered, executed, onward}
 use Rattle.machine.specs.Tables.{Tables, at_mutex, first, give, lives, owned, owner_of, ready, unlocked}
-use Rattle.machine.specs.declared.numbers.First.{First}
-use Rattle.machine.specs.declared.numbers.First.TheVariants.{Waiter, Nobody}
+use Rattle.std.specs.Prelude.{Option, Some, None}
 use Rattle.machine.proofs.Equations.{lock_is, unlock_is}
 use Rattle.machine.proofs.Lists.{cases}
 use Rattle.machine.proofs.Queues.{owned_places}
+use Rattle.machine.specs.declared.numbers.Thread.{Thread}
 use Rattle.tables.specs.Idle.{Idle}
 use Rattle.tables.proofs.Idle.{found_lives, idle_owned, idle_sent}
 use Rattle.threads.proofs.Idle.{idle_blocked}
@@ -24,11 +24,11 @@ use Rattle.threads.proofs.Idle.{idle_blocked}
 idle_unlocked : (size k : ℕ) (tables : Tables) (m : ℕ) → Idle tables k → Idle (unlocked size tables m) k
 idle_unlocked size k tables m h = by_first (first tables (at_mutex m)) refl
   where
-    by_first : (f : First) → first tables (at_mutex m) ≡ f → Idle (give size f m tables) k
-    by_first (Waiter t) e =
+    by_first : (f : Option Thread) → first tables (at_mutex m) ≡ f → Idle (give size f m tables) k
+    by_first (Some t) e =
         let live : lives (owned tables m t.0) t.0 ≡ true = rw (owned_places tables m t.0) (found_lives tables (at_mutex m) t e (omega arith)) in
         idle_sent (owned tables m t.0) t.0 live ready k (idle_owned tables m t.0 k h)
-    by_first Nobody e = idle_owned tables m size k h
+    by_first None e = idle_owned tables m size k h
 
 module _ (size n k : ℕ) (s : State) (i : Instruction) (h : Idle s.tables k) where
   -- what an outcome leaves has the front of the line idle; a fault leaves the tables as they were

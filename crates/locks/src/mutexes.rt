@@ -7,7 +7,7 @@ ghost use Rattle.tables.specs.Good.{Good, Left};
 ghost use Rattle.tables.specs.Idle.{Idle, IdleAfter};
 
 use crate::numbers::{AMutex, a_mutex, push_number};
-use machine::{First, Mutex, Owner, Registers, Thread, faults, sizes};
+use machine::{Mutex, Registers, Thread, faults, sizes};
 
 pub fn newmutex(store: &mut [i32], size: usize, r: Registers) -> Registers
     requires { Able size r (length store.old) }
@@ -43,10 +43,10 @@ pub fn lock(
         AMutex::Fault(number) => r.stop(number),
         AMutex::Made(m) => {
             let after = cells::popped(r);
-            let Owner::Nobody = tables::owner(tables, size, m) else {
+            let None = tables::owner(tables, size, m) else {
                 return threads::block(tables, size, after, tables::at_mutex(m), skip);
             };
-            tables::own(tables, size, m, Owner::Thread(Thread(r.thread)));
+            tables::own(tables, size, m, Some(Thread(r.thread)));
             after
         }
     }
@@ -87,10 +87,10 @@ pub fn unlock_mutex(tables: &mut [usize], size: usize, m: Mutex, skip: usize)
     requires idle { Idle (tables_of size tables.old) skip }
     ensures { Left size tables.new (unlocked size (tables_of size tables.old) m.0) }
 {
-    let First::Waiter(t) = tables::dequeue(tables, size, tables::at_mutex(m), skip) else {
-        tables::own(tables, size, m, Owner::Nobody);
+    let Some(t) = tables::dequeue(tables, size, tables::at_mutex(m), skip) else {
+        tables::own(tables, size, m, None);
         return;
     };
-    tables::own(tables, size, m, Owner::Thread(t));
+    tables::own(tables, size, m, Some(t));
     tables::make_ready(tables, size, t);
 }

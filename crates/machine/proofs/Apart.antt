@@ -16,7 +16,7 @@ use Rattle.machine.specs.Lists.{count}
 use Rattle.machine.specs.Size.{mutex_limit, stack_at}
 use Rattle.machine.specs.State.{State, blocked, left, next, next_of, with_tables}
 use Rattle.machine.specs.Tables.{Tables, active, all_ready, at_end, at_mutex, ended, first, owned, place_of, queue, ready, saved, sent, unlocked, wake_all, wake_first}
-use Rattle.machine.specs.declared.numbers.First.TheVariants.{Waiter, Nobody}
+use Rattle.std.specs.Prelude.{Some, None}
 use Rattle.machine.specs.declared.registers.Registers.{Registers}
 use Rattle.machine.proofs.Changes.{in_line}
 use Rattle.machine.proofs.Lists.{count_cons, less_or_not, one_if_same, same_or_not}
@@ -248,7 +248,7 @@ apart_next size s lined none = by_queue (queue s.tables ready) refl
         (record {
           places = places_same refl;
           results = λ t h. refl;
-          tops = λ t h far i. top_same size s (next_of size Nobody s) t refl (rw (ne_eqb t size far) (sym (idle t h)));
+          tops = λ t h far i. top_same size s (next_of size None s) t refl (rw (ne_eqb t size far) (sym (idle t h)));
         })
     by_queue (w ∷ rest) e =
         let below = head lined ready w rest e in
@@ -262,7 +262,7 @@ apart_next size s lined none = by_queue (queue s.tables ready) refl
           results = λ t h. refl;
           tops =
               λ t h far i.
-              top_same size s (next_of size (Waiter (record { 0 = w })) s) t refl
+              top_same size s (next_of size (Some (record { 0 = w })) s) t refl
               (same_or_not t w
               (λ is. rw (eq-eqb t w is) (ap (λ (k : ℕ). get_or s.tables.depths k 0) (sym is) ∙ sym (idle t h)))
               (λ other. rw (ne_eqb t w other, (sent_saved s.tables w active).1) (sym (idle t h))));

@@ -11,7 +11,7 @@ use lib.Seq.{get_or-set_same, get_or-set_other, set-set}
 use borrow.Author.Tests.{eq-eqb, ne_eqb, eqb-true, eqb-false}
 use Rattle.machine.specs.Lists.{count}
 use Rattle.machine.specs.Tables.{Tables, all_ready, first, first_of, is_at, owned, owner_of, place_of, queue, ready, saved, sent}
-use Rattle.machine.specs.declared.numbers.First.TheVariants.{Waiter, Nobody}
+use Rattle.std.specs.Prelude.{Some, None}
 use Rattle.machine.proofs.Lists.{arrives, count_keep, count_to_end, departs, first_occurs, first_passes, keep_none, keep_same, keep_short, keep_to_end, length_to_end, none_passes, same_or_not, to_end_twice}
 
 -- the tables' lists have the box's sizes
@@ -207,12 +207,12 @@ unfolding queue
 count_queued tables q t at = count_keep t (is_at tables q) tables.line ∙ rw (eq-eqb _ _ at)
 
 -- what the queue gives, by its list
-pub first_nobody : (tables : Tables) (q : ℕ) → queue tables q ≡ [] → first tables q ≡ Nobody
+pub first_nobody : (tables : Tables) (q : ℕ) → queue tables q ≡ [] → first tables q ≡ None
 unfolding first
 first_nobody tables q e = ap first_of e
 
 pub first_waiter : (tables : Tables) (q t : ℕ) (rest : List ℕ) → queue tables q ≡ t ∷ rest →
-    first tables q ≡ Waiter (record { 0 = t })
+    first tables q ≡ Some (record { 0 = t })
 unfolding first
 first_waiter tables q t rest e = ap first_of e
 

@@ -1,12 +1,11 @@
 -- "The machine": its state, cells and stacks, a new thread, setting up, Next and ending.
-use Rattle.std.specs.Prelude.{ℕ, ◌+◌, ◌-◌, ◌*◌, cond, List, [], ◌∷◌, ℤ, pos, negsuc, get_or, set, replicate}
+use Rattle.std.specs.Prelude.{ℕ, ◌+◌, ◌-◌, ◌*◌, cond, List, [], ◌∷◌, ℤ, pos, negsuc, get_or, set, replicate, Option, Some, None}
 use Rattle.machine.specs.Lists.{up_to}
 use Rattle.machine.specs.Registers.{halted, running, stuck, nobody, switched, with_state}
 use Rattle.machine.specs.Size.{stack_at, store_size, values_size}
 use Rattle.machine.specs.Tables.{Tables, active, any_live, at_end, ended, first, queue, ready, saved, sent, wake_all}
-use Rattle.machine.specs.declared.numbers.First.{First}
-use Rattle.machine.specs.declared.numbers.First.TheVariants.{Waiter, Nobody}
 use Rattle.machine.specs.declared.registers.Registers.{Registers}
+use Rattle.machine.specs.declared.numbers.Thread.{Thread}
 
 -- the values are what each thread ended with, then the count of each semaphore
 pub record State : Type 0 where
@@ -109,8 +108,8 @@ start size cells =
     }
 
 -- "Next: the first of the ready queue runs. With none ready the machine is halted if no thread lives, else stuck."
-abbrev pub next_of : ℕ → First → State → State
-next_of size (Waiter t) s =
+abbrev pub next_of : ℕ → Option Thread → State → State
+next_of size (Some t) s =
     record {
       store = s.store;
       tables = sent s.tables t.0 active;
@@ -119,7 +118,7 @@ next_of size (Waiter t) s =
           switched s.regs t.0 (get_or s.tables.pcs t.0 0) (get_or s.tables.depths t.0 0)
           (get_or s.tables.frames t.0 0);
     }
-next_of size Nobody s = with_regs s (with_state s.regs (cond (any_live size s.tables) stuck halted) (nobody size))
+next_of size None s = with_regs s (with_state s.regs (cond (any_live size s.tables) stuck halted) (nobody size))
 
 unfoldable pub next : ℕ → State → State
 next size s = next_of size (first s.tables ready) s

@@ -6,11 +6,10 @@
 -- owners   2 × size   the owner of each mutex, or size where it is free     line     size       the threads in the
 -- order of arrival, each once A queue is those of the line that are at one place, in the line's order. So a thread is
 -- in one queue at most, and no queue can be full.
-use Rattle.std.specs.Prelude.{ℕ, ◌+◌, ◌*◌, Bool, List, [], ◌∷◌, ◌++◌, eqb, ltb, get_or, set, take, drop}
+use Rattle.std.specs.Prelude.{ℕ, ◌+◌, ◌*◌, Bool, List, [], ◌∷◌, ◌++◌, eqb, ltb, get_or, set, take, drop, Option, Some, None}
 use Rattle.machine.specs.Lists.{keep, some, to_end}
 use Rattle.machine.specs.Size.{mutex_limit}
-use Rattle.machine.specs.declared.numbers.First.{First}
-use Rattle.machine.specs.declared.numbers.First.TheVariants.{Waiter, Nobody}
+use Rattle.machine.specs.declared.numbers.Thread.{Thread}
 
 pub record Tables : Type 0 where
   pub places : List ℕ
@@ -89,11 +88,11 @@ unfoldable pub owns_any : ℕ → Tables → ℕ → Bool
 owns_any size tables t = some (mutex_limit size) (λ m. eqb (owner_of tables m) t)
 
 -- "the queue gives the first waiter, or nobody"
-abbrev pub first_of : List ℕ → First
-first_of [] = Nobody
-first_of (t ∷ rest) = Waiter (record { 0 = t })
+abbrev pub first_of : List ℕ → Option Thread
+first_of [] = None
+first_of (t ∷ rest) = Some (record { 0 = t })
 
-unfoldable pub first : Tables → ℕ → First
+unfoldable pub first : Tables → ℕ → Option Thread
 first tables place = first_of (queue tables place)
 
 -- a thread goes to a place, as the last to arrive there
@@ -142,17 +141,17 @@ abbrev pub wake_all : Tables → ℕ → Tables
 wake_all tables place = all_ready (queue tables place) tables
 
 -- "sends the first waiter, if any, to the ready tail"; "the first waiter goes to the ready tail"
-abbrev pub wake_one : First → Tables → Tables
-wake_one (Waiter t) tables = sent tables t.0 ready
-wake_one Nobody tables = tables
+abbrev pub wake_one : Option Thread → Tables → Tables
+wake_one (Some t) tables = sent tables t.0 ready
+wake_one None tables = tables
 
 abbrev pub wake_first : Tables → ℕ → Tables
 wake_first tables place = wake_one (first tables place) tables
 
 -- "that thread owns it and goes to the ready tail, or the mutex is free"
-abbrev pub give : ℕ → First → ℕ → Tables → Tables
-give size (Waiter t) m tables = sent (owned tables m t.0) t.0 ready
-give size Nobody m tables = owned tables m size
+abbrev pub give : ℕ → Option Thread → ℕ → Tables → Tables
+give size (Some t) m tables = sent (owned tables m t.0) t.0 ready
+give size None m tables = owned tables m size
 
 abbrev pub unlocked : ℕ → Tables → ℕ → Tables
 unlocked size tables m = give size (first tables (at_mutex m)) m tables

@@ -11,5 +11,5 @@ pub mod states;
 
 pub use answers::Answer;
 pub use context::{Attempt, Context, done, stopped};
-pub use numbers::{Condition, First, Mutex, Owner, Semaphore, Thread};
+pub use numbers::{Condition, Mutex, Semaphore, Thread};
 pub use registers::Registers;

@@ -1,17 +1,15 @@
 -- What one turn of a loop adds. Assumes nothing.
 use Prim.Native.Nat.{ℕ, ◌+◌, ◌≤◌, ◌<◌}
-use mathlib.Core.Path.{◌≡◌, refl}
-use mathlib.Core.Bool.{Bool, true, false}
+use mathlib.Core.Path.{◌≡◌}
+use mathlib.Core.Bool.{true, false}
 use mathlib.Core.List.{List}
 use native.Mathlib.Numerals.{add-one}
-use native.Mathlib.Omega.{arith}
 use borrow.Author.Tests.{lt-ltb, le-ltb}
 use lib.ListN.{length, get_or, drop, drop_of_length-le}
 use lib.Seq.{drop-cons}
-use Rattle.machine.specs.Lists.{count, every}
+use Rattle.machine.specs.Lists.{count}
 use Rattle.machine.specs.WellFormed.{all_below}
-use Rattle.machine.proofs.Every.{every_true, true_and}
-use Rattle.machine.proofs.Lists.{cases, clash, one_if}
+use Rattle.machine.proofs.Lists.{one_if}
 
 module _ (bound : ℕ) (l : List ℕ) (i : ℕ) where
   -- a number below the bound is passed
@@ -36,20 +34,3 @@ module _ (t : ℕ) (l : List ℕ) (i : ℕ) where
   pub count_end : length l ≤ i → count t (drop i l) ≡ 0
   unfolding count
   count_end h = rw (drop_of_length-le l h)
-
-module _ (f : ℕ → Bool) where
-  pub every_none : every 0 f ≡ true
-  unfolding every
-  every_none = refl
-
-pub every_more : (n : ℕ) (f : ℕ → Bool) → every n f ≡ true → f n ≡ true → every (n + 1) f ≡ true
-unfolding every
-every_more n f e k = rw (add-one n) (true_and (every n f) (f n) e k)
-
--- a test that fails for one number fails for all
-pub every_stop : (n : ℕ) (f : ℕ → Bool) (i : ℕ) → i < n → f i ≡ false → every n f ≡ false
-every_stop n f i h e = cases (every n f) (λ q. clash (every_true n f q i h) e) (λ q. q)
-
--- the bound is reached
-pub every_all : (n : ℕ) (f : ℕ → Bool) (i : ℕ) → i ≤ n → n ≤ i → every i f ≡ true → every n f ≡ true
-every_all n f i h k e = let same : i ≡ n = omega arith in rw same at e

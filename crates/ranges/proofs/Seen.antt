@@ -12,7 +12,8 @@ use Rattle.machine.specs.Lists.{count, every}
 use Rattle.machine.specs.WellFormed.{all_below, line_fits}
 use Rattle.machine.proofs.Every.{and_first, and_second, true_every}
 use Rattle.machine.proofs.Lists.{count_cons, count_nil, less_or_not, one_if, one_if_is, one_if_other, one_if_same, same_or_not}
-use Rattle.ranges.proofs.Loops.{count_end, count_more, every_stop}
+use Rattle.ranges.proofs.Loops.{count_end, count_more}
+use Rattle.tables.proofs.Tests.{every_stop}
 
 -- ---- each once, by the sum of all counts
 

@@ -2,32 +2,19 @@
 // memory of the right sizes.
 #![tactic(auto)]
 
-ghost use Rattle.std.specs.Prelude.{◌≡◌, pos, length, replicate};
+ghost use Rattle.std.specs.Prelude.{◌≡◌, length};
 ghost use Rattle.machine.specs.State.{start_tables};
 ghost use Rattle.machine.specs.Tables.{slice_of};
 ghost use Rattle.setup.specs.Start.{Lent, Roomy, Started};
 
 use machine::{Registers, sizes, states};
 
-// Clears a slice of cells.
-fn clear(cells: &mut [i32])
-    ensures { cells.new ≡ replicate (length cells.old) (pos 0) }
-{
-    let mut i = 0;
-    while i < cells.len() {
-        cells[i] = 0;
-        i += 1;
-    }
-}
-
 fn start_tables(tables: &mut [usize], size: usize)
     requires { Roomy size (length tables.old) }
     ensures { tables.new ≡ slice_of (start_tables size) }
 {
-    let mut i = 0;
-    while i < tables.len() {
-        tables[i] = tables::start_at(size, i);
-        i += 1;
+    for (i, number) in tables.iter_mut().enumerate() {
+        *number = tables::start_at(size, i);
     }
 }
 
@@ -42,12 +29,12 @@ pub fn start(
     requires { Lent size (length store.old) (length tables.old) (length values.old) }
     ensures { Started size cells store.new tables.new values.new result }
 {
-    clear(store);
+    store.fill(0);
     cells::poke(store, size, 0, 0, 0);
     cells::poke(store, size, 0, 1, -1);
     cells::poke(store, size, 0, 2, -1);
     start_tables(tables, size);
-    clear(values);
+    values.fill(0);
     Registers {
         state: states::RUNNING,
         fault: 0,

@@ -15,7 +15,7 @@ use Rattle.machine.proofs.Queues.{first_at, sent_there}
 use Rattle.machine.specs.Lists.{keep, to_end}
 use Rattle.machine.specs.Tables.{Tables, active, ended, first, first_of, is_at, lives, owned, place_of, queue, saved, sent, tables_of}
 use Rattle.machine.specs.declared.numbers.Thread.{Thread}
-use Rattle.machine.specs.declared.numbers.First.TheVariants.{Waiter}
+use Rattle.std.specs.Prelude.{Some}
 use Rattle.tables.specs.Good.{Good}
 use Rattle.tables.specs.Idle.{Behind, Idle, IdleAfter, behind, idle}
 use Rattle.tables.proofs.Line.{member, searched}
@@ -75,7 +75,7 @@ pub active_lives : (tables : Tables) (t : ℕ) → place_of tables t ≡ active 
 active_lives tables t e = place_lives tables t active e (omega arith)
 
 -- and who is found at a place of the living
-pub found_lives : (tables : Tables) (place : ℕ) (t : Thread) → first tables place ≡ Waiter t → 1 < place →
+pub found_lives : (tables : Tables) (place : ℕ) (t : Thread) → first tables place ≡ Some t → 1 < place →
     lives tables t.0 ≡ true
 found_lives tables place t e high =
     let h = head tables place t e in

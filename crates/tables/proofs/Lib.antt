@@ -1,3 +1,4 @@
+pub mod Tests
 pub mod Regions
 pub mod Line
 pub mod Waking

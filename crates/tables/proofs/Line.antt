@@ -13,8 +13,7 @@ use Rattle.machine.proofs.Queues.{first_in_line, first_nobody, first_waiter, sen
 use Rattle.machine.specs.Lists.{count, keep, to_end}
 use Rattle.machine.specs.Tables.{first, first_of, is_at, queue, sent, tables_of}
 use Rattle.machine.specs.declared.numbers.Thread.{Thread}
-use Rattle.machine.specs.declared.numbers.First.{First}
-use Rattle.machine.specs.declared.numbers.First.TheVariants.{Waiter, Nobody}
+use Rattle.std.specs.Prelude.{Option, Some, None}
 use Rattle.tables.specs.Good.{Good, Left, end_moved}
 use Rattle.tables.proofs.Regions.{read_place}
 
@@ -211,7 +210,7 @@ sent_left size l l' t p g h e =
 abbrev pub remaining : ℕ → List ℕ → ℕ → ℕ → List ℕ
 remaining size l place k = keep (is_at (tables_of size l) place) (drop (6 * size + k) l)
 
-abbrev pub searched : ℕ → List ℕ → ℕ → ℕ → First
+abbrev pub searched : ℕ → List ℕ → ℕ → ℕ → Option Thread
 searched size l place k = first_of (remaining size l place k)
 
 module _ (size : ℕ) (l : List ℕ) (g : Good size l) where
@@ -248,7 +247,7 @@ module _ (size : ℕ) (l : List ℕ) (g : Good size l) where
     entry_out h =
         rw (next, ← e, drop-cons l i 0 (omega (arith, g.long)), keep_out (is_at (tables_of size l) place) (get_or l i 0) (drop (suc i) l) (at_entry ∙ ne_eqb _ _ h))
 
-    pub search_found : get_or l (get_or l i 0) 0 ≡ place → searched size l place k ≡ Waiter (record { 0 = get_or l i 0 })
+    pub search_found : get_or l (get_or l i 0) 0 ≡ place → searched size l place k ≡ Some (record { 0 = get_or l i 0 })
     search_found h = ap first_of (entry_in h)
 
     pub search_on : get_or l (get_or l i 0) 0 ≢ place → searched size l place k ≡ searched size l place (k + 1)
@@ -257,20 +256,20 @@ module _ (size : ℕ) (l : List ℕ) (g : Good size l) where
   pub queue_end : (place k : ℕ) → size ≤ k → remaining size l place k ≡ []
   queue_end place k h = rw (drop_of_length-le l {i = 6 * size + k} (omega (arith, g.long)), keep_nil (is_at (tables_of size l) place))
 
-  pub search_end : (place k : ℕ) → size ≤ k → searched size l place k ≡ Nobody
+  pub search_end : (place k : ℕ) → size ≤ k → searched size l place k ≡ None
   search_end place k h = ap first_of (queue_end place k h)
 
   -- who is found is a thread
-  pub found_real : (place : ℕ) (t : Thread) → first (tables_of size l) place ≡ Waiter t → t.0 < size
+  pub found_real : (place : ℕ) (t : Thread) → first (tables_of size l) place ≡ Some t → t.0 < size
   found_real place t e = by_queue (queue (tables_of size l) place) refl
     where
-      who : First → ℕ
-      who (Waiter x) = x.0
-      who Nobody = 0
+      who : Option Thread → ℕ
+      who (Some x) = x.0
+      who None = 0
 
       by_queue : (q : List ℕ) → queue (tables_of size l) place ≡ q → t.0 < size
-      by_queue [] k = absurd (let z : Waiter t ≡ Nobody = sym e ∙ first_nobody (tables_of size l) place k in let w : ◌≡◌ {A = ℕ} 0 1 = cc in omega arith)
+      by_queue [] k = absurd (let z : Some t ≡ None = sym e ∙ first_nobody (tables_of size l) place k in let w : ◌≡◌ {A = ℕ} 0 1 = cc in omega arith)
       by_queue (s ∷ rest) k =
-          let same : s ≡ t.0 = let z : Waiter t ≡ Waiter (record { 0 = s }) = sym e ∙ first_waiter (tables_of size l) place s rest k in ap who (sym z) in
+          let same : s ≡ t.0 = let z : Some t ≡ Some (record { 0 = s }) = sym e ∙ first_waiter (tables_of size l) place s rest k in ap who (sym z) in
           let there = first_in_line (tables_of size l) place s rest k in
           less_or_not t.0 size (λ j. j) (λ j. absurd (omega (arith, there, rw (← same) at (g.line.no_other t.0 j))))

@@ -7,7 +7,7 @@ ghost use Rattle.tables.specs.Idle.{Behind, Idle};
 
 use crate::layout;
 use crate::places::ENDED;
-use machine::{First, Thread};
+use machine::Thread;
 
 // Moves the one `t` from `from` on to the end of the slice. It walks back from the end, so that what stands before
 // `t` is not read, and needs no bound, since `t` is there: `from` is only in the contract.
@@ -66,7 +66,7 @@ pub fn first_living(tables: &[usize], size: usize, skip: usize) -> usize
 }
 
 // The first of the line that is at a place. None of the first `skip` is there, so they are not looked at.
-pub fn find(tables: &[usize], size: usize, place: usize, skip: usize) -> First
+pub fn find(tables: &[usize], size: usize, place: usize, skip: usize) -> Option<Thread>
     requires good { Good size tables.now }
     requires behind { Behind (tables_of size tables.now) place skip }
     ensures { result ≡ first (tables_of size tables.now) place }
@@ -76,11 +76,11 @@ pub fn find(tables: &[usize], size: usize, place: usize, skip: usize) -> First
         let i = in_line(size, k);
         let t = tables[i];
         if tables[t] == place {
-            return First::Waiter(Thread(t));
+            return Some(Thread(t));
         }
         k += 1;
     }
-    First::Nobody
+    None
 }
 
 // How many wait at a place.

@@ -5,30 +5,23 @@ ghost use Rattle.tables.specs.Good.{Good, Left};
 ghost use Rattle.tables.specs.Owners.{number_of, owner_at};
 
 use crate::layout;
-use machine::{Mutex, Owner, Thread, sizes};
+use machine::{Mutex, Thread, sizes};
 
 // Any number but that of nobody counts as a thread's: the test of a well-formed state asks whether that thread was
 // made.
-fn owner_at(size: usize, number: usize) -> Owner
+fn owner_at(size: usize, number: usize) -> Option<Thread>
     ensures { result ≡ owner_at size number }
 {
-    if number == size {
-        Owner::Nobody
-    } else {
-        Owner::Thread(Thread(number))
-    }
+    (number != size).then_some(Thread(number))
 }
 
-fn number_of(size: usize, owner: Owner) -> usize
+fn number_of(size: usize, owner: Option<Thread>) -> usize
     ensures { result ≡ number_of size owner }
 {
-    match owner {
-        Owner::Thread(t) => t.0,
-        Owner::Nobody => size,
-    }
+    owner.map_or(size, |t| t.0)
 }
 
-pub fn owner(tables: &[usize], size: usize, m: Mutex) -> Owner
+pub fn owner(tables: &[usize], size: usize, m: Mutex) -> Option<Thread>
     requires good { Good size tables.now }
     requires m_bound { m.0 < 2 * size }
     ensures { result ≡ owner_at size (owner_of (tables_of size tables.now) m.0) }
@@ -38,7 +31,7 @@ pub fn owner(tables: &[usize], size: usize, m: Mutex) -> Owner
 }
 
 // Gives a mutex an owner, or leaves it without one.
-pub fn own(tables: &mut [usize], size: usize, m: Mutex, owner: Owner)
+pub fn own(tables: &mut [usize], size: usize, m: Mutex, owner: Option<Thread>)
     requires good { Good size tables.old }
     requires m_bound { m.0 < 2 * size }
     ensures { Left size
@@ -54,10 +47,7 @@ pub fn owns(tables: &[usize], size: usize, t: Thread, m: Mutex) -> bool
     requires m_bound { m.0 < 2 * size }
     ensures { result ≡ eqb (owner_of (tables_of size tables.now) m.0) t.0 }
 {
-    let Owner::Thread(by) = owner(tables, size, m) else {
-        return false;
-    };
-    by.0 == t.0
+    owner(tables, size, m) == Some(t)
 }
 
 // Whether a thread owns a mutex. All are looked at: those not made yet have no owner.
@@ -66,12 +56,5 @@ pub fn owns_any(tables: &[usize], size: usize, t: Thread) -> bool
     requires t_lt_size { t.0 < size }
     ensures { result ≡ owns_any size (tables_of size tables.now) t.0 }
 {
-    let mut m = 0;
-    while m < sizes::MUTEXES * size {
-        if owns(tables, size, t, Mutex(m)) {
-            return true;
-        }
-        m += 1;
-    }
-    false
+    (0..sizes::MUTEXES * size).any(|m| owns(tables, size, t, Mutex(m)))
 }

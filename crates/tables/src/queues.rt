@@ -6,21 +6,21 @@ ghost use Rattle.tables.specs.Idle.{Behind};
 
 use crate::order::{find, send};
 use crate::places::{READY, RUNNING};
-use machine::{First, Thread};
+use machine::Thread;
 
 // Takes the first waiter out of a queue: it is where a running thread is, in no queue, and who takes it runs it or
 // sends it on. The search starts behind the first `skip` of the line.
-pub fn dequeue(tables: &mut [usize], size: usize, from: usize, skip: usize) -> First
+pub fn dequeue(tables: &mut [usize], size: usize, from: usize, skip: usize) -> Option<Thread>
     requires good { Good size tables.old }
     requires behind { Behind (tables_of size tables.old) from skip }
     ensures { Dequeued size tables.old from result tables.new }
 {
     let found = find(tables, size, from, skip);
-    let First::Waiter(t) = found else {
-        return First::Nobody;
+    let Some(t) = found else {
+        return None;
     };
     send(tables, size, t, RUNNING);
-    First::Waiter(t)
+    Some(t)
 }
 
 // Sends a thread to the ready tail.
@@ -37,7 +37,7 @@ pub fn wake_first(tables: &mut [usize], size: usize, from: usize)
     requires { Good size tables.old }
     ensures { Left size tables.new (wake_first (tables_of size tables.old) from) }
 {
-    let First::Waiter(t) = dequeue(tables, size, from, 0) else {
+    let Some(t) = dequeue(tables, size, from, 0) else {
         return;
     };
     make_ready(tables, size, t);
@@ -50,7 +50,7 @@ pub fn wake_all(tables: &mut [usize], size: usize, from: usize)
     ensures { Left size tables.new (wake_all (tables_of size tables.old) from) }
 {
     loop {
-        let First::Waiter(t) = dequeue(tables, size, from, 0) else {
+        let Some(t) = dequeue(tables, size, from, 0) else {
             return;
         };
         make_ready(tables, size, t);

@@ -38,14 +38,7 @@ pub fn any_live(tables: &[usize], size: usize) -> bool
     requires { Good size tables.now }
     ensures { result ≡ any_live size (tables_of size tables.now) }
 {
-    let mut t = 0;
-    while t < size {
-        if lives(tables, size, Thread(t)) {
-            return true;
-        }
-        t += 1;
-    }
-    false
+    (0..size).any(|t| lives(tables, size, Thread(t)))
 }
 
 pub fn saved_pc(tables: &[usize], size: usize, t: Thread) -> usize

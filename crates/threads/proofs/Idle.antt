@@ -8,10 +8,10 @@ use Rattle.machine.specs.Instructions as instr
 use Rattle.machine.specs.State.{State, blocked, left, next, next_of}
 use Rattle.machine.specs.Step.{executed, onward}
 use Rattle.machine.specs.Tables.{active, first, lives, ready, tables_of}
-use Rattle.machine.specs.declared.numbers.First.{First}
-use Rattle.machine.specs.declared.numbers.First.TheVariants.{Waiter, Nobody}
+use Rattle.std.specs.Prelude.{Option, Some, None}
 use Rattle.machine.specs.declared.registers.Registers.{Registers}
 use Rattle.machine.proofs.Equations.{carries, yield_is}
+use Rattle.machine.specs.declared.numbers.Thread.{Thread}
 use Rattle.cells.specs.Contract.{at}
 use Rattle.tables.specs.Idle.{Idle, IdleAfter}
 use Rattle.tables.proofs.Idle.{found_lives, idle_after, idle_left, idle_sent}
@@ -35,9 +35,9 @@ idle_next : (size k : ℕ) (s : State) → Idle s.tables k → Idle (next size s
 unfolding next
 idle_next size k s h = by_first (first s.tables ready) refl
   where
-    by_first : (f : First) → first s.tables ready ≡ f → Idle (next_of size f s).tables k
-    by_first (Waiter t) e = idle_sent s.tables t.0 (found_lives s.tables ready t e (omega arith)) active k h
-    by_first Nobody e = h
+    by_first : (f : Option Thread) → first s.tables ready ≡ f → Idle (next_of size f s).tables k
+    by_first (Some t) e = idle_sent s.tables t.0 (found_lives s.tables ready t e (omega arith)) active k h
+    by_first None e = h
 
 -- a living thread waits at a place
 pub idle_blocked : (size k : ℕ) (s : State) (place : ℕ) → lives s.tables s.regs.thread ≡ true →

@@ -9,7 +9,7 @@ ghost use Rattle.tables.specs.Good.{Good};
 ghost use Rattle.tables.specs.Idle.{Idle, IdleAfter};
 ghost use Rattle.threads.specs.Contract.{Goes};
 
-use machine::{First, Registers, Thread, states};
+use machine::{Registers, Thread, states};
 
 // With nobody ready: halted if no thread lives, else stuck.
 fn idle(tables: &[usize], size: usize, r: Registers) -> Registers
@@ -29,7 +29,7 @@ pub fn next(tables: &mut [usize], size: usize, r: Registers, skip: usize) -> Reg
     requires idle { Idle (tables_of size tables.old) skip }
     ensures { Goes size (next size) tables.old r tables.new result }
 {
-    let First::Waiter(t) = tables::dequeue(tables, size, tables::READY, skip) else {
+    let Some(t) = tables::dequeue(tables, size, tables::READY, skip) else {
         return idle(tables, size, r);
     };
     let pc = tables::saved_pc(tables, size, t);

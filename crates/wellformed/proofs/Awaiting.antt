@@ -6,7 +6,7 @@ use borrow.Author.Tests.{eq-eqb, ne_eqb}
 use lib.Dec.{eqb, ltb}
 use Rattle.machine.specs.Tables.{Tables, ended, lives, owner_of, place_of}
 use Rattle.machine.specs.WellFormed.{owner_fits, wait_fits}
-use Rattle.machine.specs.declared.numbers.Owner.TheVariants as owner
+use Rattle.std.specs.Prelude.{Some, None}
 use Rattle.machine.specs.declared.numbers.Thread.{Thread}
 use Rattle.machine.specs.declared.registers.Registers.{Registers}
 use Rattle.tables.specs.Owners.{owner_at}
@@ -41,9 +41,9 @@ module _ (size : ℕ) (r : Registers) (tables : Tables) where
       split false false false = refl
 
   -- a mutex without an owner fits, and one with an owner by what that thread is
-  pub unowned_fits : (m : ℕ) → owner_at size (owner_of tables m) ≡ owner.Nobody → owner_fits size r tables m ≡ true
+  pub unowned_fits : (m : ℕ) → owner_at size (owner_of tables m) ≡ None → owner_fits size r tables m ≡ true
   unowned_fits m e = rw (eq-eqb (owner_of tables m) size (unowned size (owner_of tables m) e))
 
-  pub owned_fits : (m : ℕ) (t : Thread) → owner_at size (owner_of tables m) ≡ owner.Thread t →
+  pub owned_fits : (m : ℕ) (t : Thread) → owner_at size (owner_of tables m) ≡ Some t →
       owner_fits size r tables m ≡ (ltb m r.mutexes && (ltb t.0 r.threads && lives tables t.0))
   owned_fits m t e = let h = held size (owner_of tables m) t e in rw (ne_eqb (owner_of tables m) size h.taken, h.by)

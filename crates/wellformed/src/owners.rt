@@ -6,7 +6,7 @@ ghost use Rattle.machine.specs.WellFormed.{owner_fits};
 ghost use Rattle.cells.specs.Contract.{Made};
 ghost use Rattle.tables.specs.Good.{Good};
 
-use machine::{Mutex, Owner, Registers, sizes};
+use machine::{Mutex, Registers, sizes};
 
 fn owner_fits(r: Registers, tables: &[usize], size: usize, m: usize) -> bool
     requires good { Good size tables.now }
@@ -14,7 +14,7 @@ fn owner_fits(r: Registers, tables: &[usize], size: usize, m: usize) -> bool
     requires m_bound { m < 2 * size }
     ensures { result ≡ owner_fits size r (tables_of size tables.now) m }
 {
-    let Owner::Thread(t) = tables::owner(tables, size, Mutex(m)) else {
+    let Some(t) = tables::owner(tables, size, Mutex(m)) else {
         return true;
     };
     m < r.mutexes && (t.0 < r.threads && tables::lives(tables, size, t))
@@ -25,12 +25,5 @@ pub fn owners_fit(r: Registers, tables: &[usize], size: usize) -> bool
     requires made { Made size r }
     ensures { result ≡ every (2 * size) (owner_fits size r (tables_of size tables.now)) }
 {
-    let mut m = 0;
-    while m < sizes::MUTEXES * size {
-        if !owner_fits(r, tables, size, m) {
-            return false;
-        }
-        m += 1;
-    }
-    true
+    (0..sizes::MUTEXES * size).all(|m| owner_fits(r, tables, size, m))
 }

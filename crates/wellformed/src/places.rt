@@ -6,7 +6,7 @@ ghost use Rattle.machine.specs.WellFormed.{joiner_fits, saved_fits, thread_fits,
 ghost use Rattle.cells.specs.Contract.{Made};
 ghost use Rattle.tables.specs.Good.{Good};
 
-use machine::{Mutex, Owner, Registers, Thread};
+use machine::{Mutex, Registers, Thread};
 use ranges::frame_fits;
 use tables::Awaited;
 
@@ -26,10 +26,7 @@ fn is_owned(tables: &[usize], size: usize, m: Mutex) -> bool
     requires m_bound { m.0 < 2 * size }
     ensures { result ≡ negate (eqb (owner_of (tables_of size tables.now) m.0) size) }
 {
-    let Owner::Thread(_) = tables::owner(tables, size, m) else {
-        return false;
-    };
-    true
+    tables::owner(tables, size, m).is_some()
 }
 
 // What is waited for is made, a mutex has an owner, and a thread has not ended.
@@ -84,12 +81,5 @@ pub fn threads_fit(r: Registers, tables: &[usize], size: usize) -> bool
     requires made { Made size r }
     ensures { result ≡ every size (thread_fits size r (tables_of size tables.now)) }
 {
-    let mut t = 0;
-    while t < size {
-        if !thread_fits(r, tables, size, t) {
-            return false;
-        }
-        t += 1;
-    }
-    true
+    (0..size).all(|t| thread_fits(r, tables, size, t))
 }

@@ -10,14 +10,7 @@ fn any_ready(tables: &[usize], size: usize) -> bool
     requires { Good size tables.now }
     ensures { result ≡ any_ready size (tables_of size tables.now) }
 {
-    let mut t = 0;
-    while t < size {
-        if tables::place(tables, size, Thread(t)) == tables::READY {
-            return true;
-        }
-        t += 1;
-    }
-    false
+    (0..size).any(|t| tables::place(tables, size, Thread(t)) == tables::READY)
 }
 
 pub fn state_fits(r: Registers, tables: &[usize], size: usize) -> bool

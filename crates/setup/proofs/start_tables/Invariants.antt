@@ -1,12 +1,6 @@
-use Prim.Native.Nat.{ℕ, ◌-◌, ◌≤◌}
-use mathlib.Core.Path.{◌≡◌}
-use lib.ListN.{length}
+use Rattle.std.proofs.Common.{◌≡◌, ℕ, ◌<◌, get_or}
 use Rattle.tables.specs.Start.{start_at}
-use Rattle.setup.proofs.Filling.{Filled}
 use Rattle.setup.proofs.start_tables.Given as goal
 
 abbrev pub invariant-loop-i : goal.invariant-loop-i
-invariant-loop-i l = (length l.tables ≡ length l.initial.tables) × (l.i ≤ length l.tables) × Filled ℕ l.tables (start_at l.size) 0 l.i
-
-abbrev pub decreases-loop-i : goal.decreases-loop-i
-decreases-loop-i l = length l.initial.tables - l.i
+invariant-loop-i l = (k : ℕ) → k < l.i → get_or l.tables k 0 ≡ start_at l.size k

@@ -27,24 +27,24 @@ returns-in_default c =
     }
 
 pub saved_cells-cells-requires : goal.saved_cells-cells-requires
-saved_cells-cells-requires c = record { good = c.dequeue.ensures.left.good; t_lt_size = c.dequeue.ensures.real _ c.in-Waiter.is }
+saved_cells-cells-requires c = record { good = c.dequeue.ensures.left.good; t_lt_size = c.dequeue.ensures.real _ c.in-Some.is }
 
 pub overflow_sub-cells : goal.overflow_sub-cells
 overflow_sub-cells c =
-    let cells = room _ _ _ _ _ c.loop-t.invariant.good c.dequeue.ensures _ c.in-Waiter.is c.loop-t.invariant.receivers _ c.saved_cells-cells.ensures in
+    let cells = room _ _ _ _ _ c.loop-t.invariant.good c.dequeue.ensures _ c.in-Some.is c.loop-t.invariant.receivers _ c.saved_cells-cells.ensures in
     omega (arith, cells.some, cells.most)
 
 pub poke-requires : goal.poke-requires
 poke-requires c =
     let left = c.loop-t.invariant in
-    let cells = room _ _ _ _ _ left.good c.dequeue.ensures _ c.in-Waiter.is left.receivers _ c.saved_cells-cells.ensures in
-    record { small = left.good.small; fits = left.stored ∙ c.requires.store_len; thread = omega (arith, c.dequeue.ensures.real _ c.in-Waiter.is); cell = omega (arith, cells.some, cells.most) }
+    let cells = room _ _ _ _ _ left.good c.dequeue.ensures _ c.in-Some.is left.receivers _ c.saved_cells-cells.ensures in
+    record { small = left.good.small; fits = left.stored ∙ c.requires.store_len; thread = omega (arith, c.dequeue.ensures.real _ c.in-Some.is); cell = omega (arith, cells.some, cells.most) }
 
 pub make_ready-requires : goal.make_ready-requires
-make_ready-requires c = record { good = c.dequeue.ensures.left.good; t_lt_size = c.dequeue.ensures.real _ c.in-Waiter.is }
+make_ready-requires c = record { good = c.dequeue.ensures.left.good; t_lt_size = c.dequeue.ensures.real _ c.in-Some.is }
 
 pub loop-t-smaller : goal.loop-t-smaller
-loop-t-smaller c = (woke _ _ _ _ _ c.loop-t.invariant.good c.dequeue.ensures _ _ c.requires.lt_from c.in-Waiter.is c.make_ready.ensures.is).fewer
+loop-t-smaller c = (woke _ _ _ _ _ c.loop-t.invariant.good c.dequeue.ensures _ _ c.requires.lt_from c.in-Some.is c.make_ready.ensures.is).fewer
 
 pub loop-t-preserved : goal.loop-t-preserved
 loop-t-preserved c =
@@ -53,9 +53,9 @@ loop-t-preserved c =
     let on = c.make_ready.ensures.is in
     record {
       good = c.make_ready.ensures.good;
-      receivers = still _ _ _ _ _ left.good c.dequeue.ensures _ c.in-Waiter.is left.receivers _ high on;
+      receivers = still _ _ _ _ _ left.good c.dequeue.ensures _ c.in-Some.is left.receivers _ high on;
       tabled = c.make_ready.auto.tables ∙ c.dequeue.auto.tables ∙ left.tabled;
       stored = c.poke.auto.store ∙ left.stored;
-      waking = left.waking ∙ (woke _ _ _ _ _ left.good c.dequeue.ensures _ _ high c.in-Waiter.is on).same;
-      giving = left.giving ∙ rw c.poke.ensures (gave _ _ _ _ _ left.good c.dequeue.ensures _ c.in-Waiter.is left.receivers _ high on _ _ _ c.saved_cells-cells.ensures);
+      waking = left.waking ∙ (woke _ _ _ _ _ left.good c.dequeue.ensures _ _ high c.in-Some.is on).same;
+      giving = left.giving ∙ rw c.poke.ensures (gave _ _ _ _ _ left.good c.dequeue.ensures _ c.in-Some.is left.receivers _ high on _ _ _ c.saved_cells-cells.ensures);
     }

@@ -31,7 +31,7 @@ own-requires c = let there = passed _ _ _ _ _ _ _ (c.a_mutex.ensures ∙ ap mute
 pub returns-in-Fault : goal.returns-in-Fault
 returns-in-Fault c n values = rw c.stop.ensures (faults _ n _ _ _ (lock_is _ n _ ∙ stops _ _ _ _ _ _ _ _ (c.a_mutex.ensures ∙ ap mutex_named c.in-Fault.is)))
 
-pub returns-in-Nobody : goal.returns-in-Nobody
-returns-in-Nobody c n values =
+pub returns-in-None : goal.returns-in-None
+returns-in-None c n values =
     rw (c.popped-after.ensures, c.own.ensures.is)
-    (carries _ n _ _ _ (lock_is _ n _ ∙ goes_on _ _ _ _ _ _ _ _ (c.a_mutex.ensures ∙ ap mutex_named c.in-Made.is) ∙ rw (eq-eqb _ _ (unowned _ _ (sym c.owner.ensures ∙ c.in-Nobody.is)))))
+    (carries _ n _ _ _ (lock_is _ n _ ∙ goes_on _ _ _ _ _ _ _ _ (c.a_mutex.ensures ∙ ap mutex_named c.in-Made.is) ∙ rw (eq-eqb _ _ (unowned _ _ (sym c.owner.ensures ∙ c.in-None.is)))))

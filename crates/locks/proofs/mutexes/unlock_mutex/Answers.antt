@@ -19,12 +19,12 @@ returns-in_default c =
     }
 
 pub make_ready-requires : goal.make_ready-requires
-make_ready-requires c = record { good = c.own-2.ensures.good; t_lt_size = c.dequeue.ensures.real _ c.in-Waiter.is }
+make_ready-requires c = record { good = c.own-2.ensures.good; t_lt_size = c.dequeue.ensures.real _ c.in-Some.is }
 
 pub returns : goal.returns
 returns c =
     let d = rw c.at_mutex.ensures at c.dequeue.ensures in
-    let who = c.in-Waiter.is in
+    let who = c.in-Some.is in
     record {
       is =
           passed_on _ _ _ _ _ _ _ (c.requires.good.line.once _ (d.real _ who)) (took_first _ _ _ _ _ _ d who) (took_tables _ _ _ _ _ _ d who) c.own-2.ensures.is c.make_ready.ensures.is;

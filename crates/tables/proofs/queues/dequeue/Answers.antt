@@ -15,11 +15,11 @@ returns-in_default c =
     }
 
 pub send-requires : goal.send-requires
-send-requires c = record { good = c.requires.good; t_lt_size = found_real _ _ c.requires.good _ _ (sym c.find-found.ensures ∙ c.in-Waiter.is) }
+send-requires c = record { good = c.requires.good; t_lt_size = found_real _ _ c.requires.good _ _ (sym c.find-found.ensures ∙ c.in-Some.is) }
 
 pub returns : goal.returns
 returns c =
-    let waiter = c.in-Waiter.is in
+    let waiter = c.in-Some.is in
     record {
       found = sym waiter ∙ c.find-found.ensures;
       left = c.send.ensures;

@@ -18,14 +18,14 @@ returns-in_default c =
     record { is = all_woken _ _ _ _ _ c.loop-t.invariant.0 d c.in_default.is ∙ sym c.loop-t.invariant.2; good = d.left.good }
 
 pub make_ready-requires : goal.make_ready-requires
-make_ready-requires c = let d = c.dequeue.ensures in record { good = d.left.good; t_lt_size = d.real _ c.in-Waiter.is }
+make_ready-requires c = let d = c.dequeue.ensures in record { good = d.left.good; t_lt_size = d.real _ c.in-Some.is }
 
 pub loop-t-smaller : goal.loop-t-smaller
-loop-t-smaller c = (woke _ _ _ _ _ c.loop-t.invariant.0 c.dequeue.ensures _ _ c.requires.lt_from c.in-Waiter.is c.make_ready.ensures.is).fewer
+loop-t-smaller c = (woke _ _ _ _ _ c.loop-t.invariant.0 c.dequeue.ensures _ _ c.requires.lt_from c.in-Some.is c.make_ready.ensures.is).fewer
 
 pub loop-t-preserved : goal.loop-t-preserved
 loop-t-preserved c = (
   c.make_ready.ensures.good,
   c.make_ready.auto.tables ∙ c.dequeue.auto.tables ∙ c.loop-t.invariant.1,
-  c.loop-t.invariant.2 ∙ (woke _ _ _ _ _ c.loop-t.invariant.0 c.dequeue.ensures _ _ c.requires.lt_from c.in-Waiter.is c.make_ready.ensures.is).same,
+  c.loop-t.invariant.2 ∙ (woke _ _ _ _ _ c.loop-t.invariant.0 c.dequeue.ensures _ _ c.requires.lt_from c.in-Some.is c.make_ready.ensures.is).same,
 )
