@@ -1,6 +1,6 @@
 -- What step and run give: a refusal, or what the engine gave. Assumes nothing.
 use Prim.Native.Nat.{ℕ, ◌-◌, ◌*◌, ◌/◌, ◌≤◌}
-use mathlib.Core.Path.{◌≡◌, refl, sym, ap, ◌∙◌}
+use mathlib.Core.Path.{◌≡◌, sym, ap, ◌∙◌}
 use mathlib.Core.List.{List}
 use lib.IntN.{ℤ}
 use lib.ListN.{length, drop, take, length-drop}
@@ -14,11 +14,11 @@ use Rattle.engine.specs.Contract.{Carded, Lasts}
 use Rattle.engine.specs.declared.progress.Progress.{Progress}
 use Rattle.machine.proofs.Runs.{run_done}
 use Rattle.machine.proofs.Slices.{slice_tables}
-use Rattle.machine.specs.Calls.{Called, answer_of, boxed, refused, run_call}
+use Rattle.machine.specs.Calls.{answer_of, boxed, run_call}
 use Rattle.machine.specs.State.{State}
 use Rattle.machine.specs.Tables.{slice_of}
 use Rattle.machine.specs.declared.registers.Registers.{Registers}
-use Rattle.outcome.specs.Outcome.{Ends, Gives, refusal}
+use Rattle.outcome.specs.Outcome.{Ends, Gives}
 use Rattle.outcome.specs.declared.Outcome.{Outcome}
 
 -- an accepted card has its header, and what follows it is its code part
@@ -39,12 +39,6 @@ carded image code cells e same =
     let bytes : length (drop 9 image) ≡ 4 * count_of image = omega (arith, length-drop 9 image, a.long.follows, a.sized.exact) in
     let long : length code ≡ 4 * count_of image = ap length (same ∙ code_part image cells e) ∙ bytes in
     record { image = image; cells = cells; read = e; part = same; long = omega (arith, long) }
-
--- a refusal leaves everything
-pub refused_gives : {called : Called} {store : List ℤ} {tables : List ℕ} {values : List ℤ} {r : Registers} {number place : ℕ} {outcome : Outcome} →
-    called ≡ refused number place (boxed store tables values r) → outcome ≡ refusal number place r → Gives called outcome store tables values
-refused_gives e o =
-    rw (e, o) (record { answered = refl; counted = refl; registers = refl; in_store = refl; in_tables = refl; in_values = refl })
 
 module _ {size : ℕ} {image : List ℕ} {store : List ℤ} {tables : List ℕ} {values : List ℤ} {r : Registers} {m : ℕ} where
   -- what the engine gave

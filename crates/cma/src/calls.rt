@@ -6,16 +6,9 @@ ghost use Rattle.outcome.specs.Outcome.{Gives};
 ghost use Rattle.machine.specs.Calls.{boxed, run_call, step_call};
 ghost use Rattle.machine.specs.Size.{full};
 
-use card::{Reading, layout, refusals};
+use card::{Reason, Refusal, layout, refuse_if};
 use machine::{Registers, sizes};
 use outcome::{Outcome, ended, refused};
-
-// What the tests of a call give.
-#[derive(Clone, Copy)]
-pub enum Verdict {
-    Passed,
-    Refused { number: usize, place: usize },
-}
 
 // Tests the card, then the store's size, then the tables. Called from two places, as `proceed` is, and so the compiler
 // leaves each a function of its own: in one with the engine, the test of the tables takes longer.
@@ -26,31 +19,15 @@ fn judge(
     values: &[i32],
     size: usize,
     r: Registers,
-) -> Verdict
+) -> Result<(), Refusal>
     requires { size ≤ 32 }
     ensures { Judges size image.now (boxed store.now tables.now values.now r) result }
 {
-    match card::read(image) {
-        Reading::Refused { number, place } => Verdict::Refused {
-            number: number as usize,
-            place,
-        },
-        Reading::Accepted { cells: _ } => {
-            if store.len() != sizes::STORE * size {
-                return Verdict::Refused {
-                    number: refusals::STORE,
-                    place: 0,
-                };
-            }
-            if !wellformed::well_formed(r, tables, values, size) {
-                return Verdict::Refused {
-                    number: refusals::TABLES,
-                    place: 0,
-                };
-            }
-            Verdict::Passed
-        }
-    }
+    card::read(image)?;
+    refuse_if(store.len() != sizes::STORE * size, Reason::Store, 0)?;
+    let formed = wellformed::well_formed(r, tables, values, size);
+    refuse_if(!formed, Reason::Tables, 0)?;
+    Ok(())
 }
 
 // Runs a card that passed. It is unpacked into `words`, where there is room for it; else each instruction is taken from
@@ -92,8 +69,8 @@ pub fn step(
         store.new tables.new values.new }
 {
     match judge(image, store, tables, values, 32, r) {
-        Verdict::Refused { number, place } => refused(number, place, r),
-        Verdict::Passed => {
+        Err(refusal) => refused(refusal, r),
+        Ok(()) => {
             // Unpacking the card would cost more than its one instruction.
             let mut words = [0; 0];
             proceed(image, store, tables, values, &mut words, 32, r, 1)
@@ -115,8 +92,8 @@ pub fn run(
         store.new tables.new values.new }
 {
     match judge(image, store, tables, values, 32, r) {
-        Verdict::Refused { number, place } => refused(number, place, r),
-        Verdict::Passed => {
+        Err(refusal) => refused(refusal, r),
+        Ok(()) => {
             let mut words = [0; sizes::INSTRUCTIONS];
             proceed(image, store, tables, values, &mut words, 32, r, m)
         }

@@ -23,17 +23,21 @@ pub record Digit (b : ℕ) : Type 0 where
   pub most : b ≤ 57
 
 pub digit : (b : ℕ) → is_digit b ≡ true → Digit b
-digit b e = let both = and_true (leb 48 b) (leb b 57) e in record { least = leb-true 48 b both.0; most = leb-true b 57 both.1 }
+digit b e = let both = and_true (leb 48 b) (leb b 57) e in record {
+  least = leb-true 48 b both.0;
+  most = leb-true b 57 both.1;
+}
 
 glyph_is : (d : ℕ) → d < 10 → hex_digit_ascii d ≡ 48 + d
 glyph_is d h = rw (lt-ltb d 10 h)
 
 glyph_digit : (d : ℕ) → d < 10 → is_digit (hex_digit_ascii d) ≡ true
-glyph_digit d h = rw (glyph_is d h) (true_and (leb 48 (48 + d)) (leb (48 + d) 57) (le-leb 48 (48 + d) (omega arith)) (le-leb (48 + d) 57 (omega arith)))
+glyph_digit d h = rw (glyph_is d h)
+    (true_and (leb 48 (48 + d)) (leb (48 + d) 57) (le-leb 48 (48 + d) (omega arith)) (le-leb (48 + d) 57 (omega arith)))
 
 -- ---- a text of digits as a number
 
-value_snoc : (n : ℕ) (ds : List ℕ) (b : ℕ) → value_from n (ds ++ b ∷ []) ≡ 10 * value_from n ds + (b - 48)
+pub value_snoc : (n : ℕ) (ds : List ℕ) (b : ℕ) → value_from n (ds ++ b ∷ []) ≡ 10 * value_from n ds + (b - 48)
 unfolding value_from
 value_snoc n [] b = refl
 value_snoc n (c ∷ rest) b = value_snoc (10 * n + (c - 48)) rest b
@@ -73,7 +77,8 @@ value_less j n (b ∷ rest) m same e h =
 value_least : (j n : ℕ) (ds : List ℕ) (m : ℕ) → m ≡ length ds + j → 10 ^ j ≤ n → 10 ^ m ≤ value_from n ds
 unfolding value_from
 value_least j n [] m same h = let all : m ≡ j = omega (arith, same) in rw all h
-value_least j n (b ∷ rest) m same h = value_least (suc j) (10 * n + (b - 48)) rest m (omega (arith, same)) (omega (arith, h, pow-suc 10 j))
+value_least j n (b ∷ rest) m same h =
+    value_least (suc j) (10 * n + (b - 48)) rest m (omega (arith, same)) (omega (arith, h, pow-suc 10 j))
 
 -- ---- reading, then writing
 
@@ -105,7 +110,8 @@ fewest_of (b ∷ c ∷ rest) e =
 pub reads_back : (ds : List ℕ) → is_decimal ds ≡ true → value_of ds < 10 ^ 20 → decimal (value_of ds) ≡ ds
 unfolding decimal
 reads_back ds e h =
-    rw (places_fewest 19 (value_of ds) (length ds) h (fewest_of ds e)) (digits_after 0 0 ds (length ds) (omega arith) (all_of ds e))
+    rw (places_fewest 19 (value_of ds) (length ds) h (fewest_of ds e))
+    (digits_after 0 0 ds (length ds) (omega arith) (all_of ds e))
 
 -- ---- writing, then reading
 
@@ -115,7 +121,13 @@ unfolding places
 places_hold zero n h = h
 places_hold (suc fuel) n h =
     less_or_not n 10 (λ e. rw (lt-ltb n 10 e) e)
-    (λ e. rw (le-ltb n 10 e) (omega (arith, places_hold fuel (n / 10) (omega (arith, h, pow-suc 10 (suc fuel))), pow-suc 10 (places fuel (n / 10)))))
+    (λ e. rw (le-ltb n 10 e)
+    (omega (
+      arith,
+      places_hold fuel (n / 10) (omega (arith, h, pow-suc 10 (suc fuel))),
+      pow-suc
+          10 (places fuel (n / 10)),
+    )))
 
 pub decimal_read : (n : ℕ) → n < 10 ^ 20 → value_of (decimal n) ≡ n
 unfolding decimal
@@ -124,13 +136,16 @@ decimal_read n h = digits_read (places 19 n) n (places_hold 19 n h)
 all_snoc : (ds : List ℕ) (b : ℕ) → all_digits ds ≡ true → is_digit b ≡ true → all_digits (ds ++ b ∷ []) ≡ true
 unfolding all_digits
 all_snoc [] b e h = true_and (is_digit b) true h refl
-all_snoc (c ∷ rest) b e h = let both = and_true (is_digit c) (all_digits rest) e in true_and (is_digit c) (all_digits (rest ++ b ∷ [])) both.0 (all_snoc rest b both.1 h)
+all_snoc (c ∷ rest) b e h =
+    let both = and_true (is_digit c) (all_digits rest) e in true_and (is_digit c) (all_digits (rest ++ b ∷ []))
+    both.0 (all_snoc rest b both.1 h)
 
 -- what is written is digits
 pub digits_all : (k n : ℕ) → all_digits (last_digits 10 k n) ≡ true
 unfolding all_digits
 digits_all zero n = refl
-digits_all (suc k) n = all_snoc (last_digits 10 k (n / 10)) (hex_digit_ascii (n % 10)) (digits_all k (n / 10)) (glyph_digit (n % 10) (omega arith))
+digits_all (suc k) n = all_snoc (last_digits 10 k (n / 10)) (hex_digit_ascii (n % 10)) (digits_all k (n / 10))
+    (glyph_digit (n % 10) (omega arith))
 
 -- a digit more after a number that isn't 0
 decimal_snoc : (ds : List ℕ) (b : ℕ) → is_decimal ds ≡ true → 1 ≤ value_of ds → is_digit b ≡ true →
@@ -154,8 +169,10 @@ written (suc fuel) n h =
     less_or_not n 10 (λ e. rw (lt-ltb n 10 e) (glyph_digit (n % 10) (omega arith)))
     (λ e.
     let front : n / 10 < 10 ^ suc fuel = omega (arith, h, pow-suc 10 (suc fuel)) in
-    let read : value_of (last_digits 10 (places fuel (n / 10)) (n / 10)) ≡ n / 10 = digits_read (places fuel (n / 10)) (n / 10) (places_hold fuel (n / 10) front) in
-    rw (le-ltb n 10 e) (decimal_snoc (last_digits 10 (places fuel (n / 10)) (n / 10)) (hex_digit_ascii (n % 10)) (written fuel (n / 10) front) (rw read (omega (arith, e))) (glyph_digit (n % 10) (omega arith))))
+    let read : value_of (last_digits 10 (places fuel (n / 10)) (n / 10)) ≡ n / 10 =
+    digits_read (places fuel (n / 10)) (n / 10) (places_hold fuel (n / 10) front) in
+    rw (le-ltb n 10 e) (decimal_snoc (last_digits 10 (places fuel (n / 10)) (n / 10)) (hex_digit_ascii (n % 10))
+    (written fuel (n / 10) front) (rw read (omega (arith, e))) (glyph_digit (n % 10) (omega arith))))
 
 pub decimal_written : (n : ℕ) → n < 10 ^ 20 → is_decimal (decimal n) ≡ true
 unfolding decimal

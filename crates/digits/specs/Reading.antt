@@ -1,7 +1,5 @@
 -- Numbers in decimal, the way back: which texts are numbers, and what number each is.
-use Rattle.std.specs.Prelude.{ℕ, ◌+◌, ◌*◌, ◌-◌, Bool, true, false, cond, not, ◌&&◌, List, [], ◌∷◌, eqb, leb, ltb}
-use Rattle.digits.specs.declared.Decimal.{Decimal}
-use Rattle.digits.specs.declared.Decimal.TheVariants.{Value, Wrong}
+use Rattle.std.specs.Prelude.{ℕ, ◌+◌, ◌*◌, ◌-◌, Bool, true, false, cond, not, ◌&&◌, List, [], ◌∷◌, Option, Some, None, eqb, leb, ltb}
 
 -- `0` to `9`
 abbrev pub is_digit : ℕ → Bool
@@ -30,5 +28,5 @@ abbrev pub capped : ℕ → ℕ
 capped n = cond (ltb n 1000000000) n 1000000000
 
 -- a word as a decimal number
-abbrev pub decimal_of : List ℕ → Decimal
-decimal_of word = cond (is_decimal word) (Value (capped (value_of word))) Wrong
+abbrev pub decimal_of : List ℕ → Option ℕ
+decimal_of word = cond (is_decimal word) (Some (capped (value_of word))) None

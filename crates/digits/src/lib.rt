@@ -7,32 +7,16 @@ ghost use Rattle.digits.specs.Reading.{all_digits, capped, decimal_of, is_decima
 // A number is told apart up to here: every larger one counts as this.
 pub const CAP: u64 = 1000000000;
 
-// What a word is, read as a decimal number.
-#[derive(Clone, Copy)]
-pub enum Decimal {
-    // The number, or `CAP` where it is larger.
-    Value(u64),
-    // A word of another form.
-    Wrong,
-}
-
 fn is_digit(b: u8) -> bool
     ensures { result ≡ is_digit b }
 {
-    48 <= b && b <= 57
+    b'0' <= b && b <= b'9'
 }
 
 pub fn all_digits(word: &[u8]) -> bool
     ensures { result ≡ all_digits word.now }
 {
-    let mut i = 0;
-    while i < word.len() {
-        if !is_digit(word[i]) {
-            return false;
-        }
-        i += 1;
-    }
-    true
+    word.iter().all(|b| is_digit(*b))
 }
 
 // Whether a word is a decimal number without leading zeros.
@@ -42,7 +26,7 @@ fn is_decimal(word: &[u8]) -> bool
     if word.len() < 1 {
         return false;
     }
-    if word[0] == 48 {
+    if word[0] == b'0' {
         return word.len() == 1;
     }
     all_digits(word)
@@ -50,12 +34,11 @@ fn is_decimal(word: &[u8]) -> bool
 
 // A number with a digit more.
 fn longer(n: u64, b: u8) -> u64
-    requires n_bound { n ≤ 1000000000 }
-    requires b_value { is_digit b ≡ true }
-    ensures { (result ≡ capped (10 * n + (b - 48))) × (result ≤ 1000000000) }
+    requires small { n ≤ 1000000000 }
+    requires digit { is_digit b ≡ true }
+    ensures { result ≡ capped (10 * n + (b - 48)) }
 {
-    let m = 10 * n + (b - 48) as u64;
-    if m < CAP { m } else { CAP }
+    (10 * n + u64::from(b - b'0')).min(CAP)
 }
 
 // The number that digits are, leading zeros or not.
@@ -64,19 +47,19 @@ pub fn value(word: &[u8]) -> u64
     ensures { result ≡ capped (value_of word.now) }
 {
     let mut n = 0;
-    let mut i = 0;
-    while i < word.len() {
-        n = longer(n, word[i]);
-        i += 1;
+    for b in word {
+        n = longer(n, *b);
     }
     n
 }
 
-pub fn read_decimal(word: &[u8]) -> Decimal
+// A word as a decimal number, or `CAP` where that is larger.
+pub fn read_decimal(word: &[u8]) -> Option<u64>
     ensures { result ≡ decimal_of word.now }
 {
-    if !is_decimal(word) {
-        return Decimal::Wrong;
+    if is_decimal(word) {
+        Some(value(word))
+    } else {
+        None
     }
-    Decimal::Value(value(word))
 }

@@ -2,7 +2,7 @@
 use Prim.Native.Nat.{ℕ, suc, ◌+◌, ◌^◌, ◌<◌}
 use mathlib.Core.Bool.{Bool, true, false, cond, ◌&&◌}
 use mathlib.Core.List.{List, [], ◌∷◌, ◌++◌}
-use mathlib.Core.Option.{Option, none, some}
+use Rattle.std.specs.Prelude.{Option, None, Some}
 use mathlib.Core.Path.{◌≡◌, refl, sym, ◌∙◌, ap}
 use lib.IntN.{ℤ}
 use lib.ListN.{length}
@@ -30,7 +30,8 @@ use Rattle.importer.proofs.Words.{address_back, line_is, operand_back, told}
 
 -- the words behind an address are those of the instruction
 abbrev Written : List (List ℕ) → Item → Type 0
-Written words item = words ≡ name_of item.opcode ∷ cond (has_operand (rule_of item.opcode)) (signed item.operand ∷ []) []
+Written words item = words ≡ name_of item.opcode ∷ cond (has_operand (rule_of item.opcode))
+    (signed item.operand ∷ []) []
 
 operands_back : (others : List (List ℕ)) (item : Item) → in_bits item.operand ≡ true → Operands others item →
     others ≡ cond (has_operand (rule_of item.opcode)) (signed item.operand ∷ []) []
@@ -38,11 +39,12 @@ operands_back [] item fits h = rw h
 operands_back (k ∷ []) item fits h = rw (h.0, operand_back k item.operand h.1 (told item.operand fits))
 operands_back (k ∷ l ∷ more) item fits h = absurd h
 
-item_back : (words : List (List ℕ)) (item : Item) → in_bits item.operand ≡ true → item_read words ≡ some item →
+item_back : (words : List (List ℕ)) (item : Item) → in_bits item.operand ≡ true → item_read words ≡ Some item →
     Written words item
 item_back words item fits e =
     let s = spelt words item e in
-    s.are ∙ rw (named_is s.name item.opcode s.known).1 (ap (λ (rest : List (List ℕ)). s.name ∷ rest) (operands_back s.others item fits s.follow))
+    s.are ∙ rw (named_is s.name item.opcode s.known).1
+    (ap (λ (rest : List (List ℕ)). s.name ∷ rest) (operands_back s.others item fits s.follow))
 
 -- ---- a line
 
@@ -62,15 +64,16 @@ line_back l index item h fits e =
 
 pub record Allowed (last : ℤ) (index : ℕ) (item : Item) (items : List Item) : Type 0 where
   pub fits : in_bits item.operand ≡ true
-  pub others : first_against last (suc index) items ≡ none
+  pub others : first_against last (suc index) items ≡ None
 
-pub allowed : (last : ℤ) (index : ℕ) (item : Item) (items : List Item) → first_against last index (item ∷ items) ≡ none →
+pub allowed : (last : ℤ) (index : ℕ) (item : Item) (items : List Item) →
+    first_against last index (item ∷ items) ≡ None →
     Allowed last index item items
 unfolding first_against
 allowed last index item items e = by (in_bits item.operand) refl (allows (rule_of item.opcode) last item.operand) e
   where
     by : (t : Bool) → in_bits item.operand ≡ t → (u : Bool) →
-        cond (t && u) (first_against last (suc index) items) (some index) ≡ none → Allowed last index item items
+        cond (t && u) (first_against last (suc index) items) (Some index) ≡ None → Allowed last index item items
     by true t true q = record { fits = t; others = q }
     by true t false q = impossible cc
     by false t u q = impossible cc
@@ -82,13 +85,14 @@ last_back [] index place items e = let same : [] ≡ items = cc in rw (← same)
 last_back (b ∷ rest) index place items e = impossible cc
 
 pub lines_back : (last : ℤ) (ls : List (List ℕ)) (index place : ℕ) (items : List Item) → AllNamed items →
-    first_against last index items ≡ none → lines_read index place ls ≡ good items →
+    first_against last index items ≡ None → lines_read index place ls ≡ good items →
     join 10 ls ≡ instruction_lines index (words_of items)
 unfolding instruction_lines join lines_read words_of
 lines_back last [] index place items named rules e = let same : [] ≡ items = cc in rw (← same)
 lines_back last (l ∷ []) index place items named rules e = last_back l index place items e
 lines_back last (l ∷ m ∷ more) index place items named rules e =
-    let f = first_of index place (line_read (split 32 l)) (lines_read (suc index) (place + suc (length l)) (m ∷ more)) items e in
+    let f = first_of index place (line_read (split 32 l))
+    (lines_read (suc index) (place + suc (length l)) (m ∷ more)) items e in
     let known : AllNamed (f.item ∷ f.others) = rw f.are at named in
     let a = allowed last index f.item f.others (rw f.are at rules) in
     let here = line_back l index f.item known.0 a.fits f.line in
@@ -100,17 +104,17 @@ lines_back last (l ∷ m ∷ more) index place items named rules e =
 
 -- ---- the header, and the whole text
 
-cells_back : (l : List ℕ) (g : ℕ) → g < 10 ^ 20 → header_read (split 32 l) ≡ some g → l ++ 10 ∷ [] ≡ header_line g
+cells_back : (l : List ℕ) (g : ℕ) → g < 10 ^ 20 → header_read (split 32 l) ≡ Some g → l ++ 10 ∷ [] ≡ header_line g
 unfolding header_read
 cells_back l g h e = by (split 32 l) refl e
   where
-    by : (words : List (List ℕ)) → split 32 l ≡ words → header_read words ≡ some g → l ++ 10 ∷ [] ≡ header_line g
+    by : (words : List (List ℕ)) → split 32 l ≡ words → header_read words ≡ Some g → l ++ 10 ∷ [] ≡ header_line g
     by [] p q = impossible cc
     by (first ∷ []) p q = impossible cc
     by (first ∷ number ∷ []) p q = right_header (same first cells_word && is_decimal number) refl q
       where
         right_header : (t : Bool) → (same first cells_word && is_decimal number) ≡ t →
-            cond t (some (value_of number)) none ≡ some g → l ++ 10 ∷ [] ≡ header_line g
+            cond t (Some (value_of number)) None ≡ Some g → l ++ 10 ∷ [] ≡ header_line g
         right_header true t r =
             let both = and_true (same first cells_word) (is_decimal number) t in
             let value : value_of number ≡ g = cc in
@@ -126,7 +130,7 @@ record Says (g : ℕ) (items : List Item) (ls : List (List ℕ)) : Type 0 where
   pub next : List ℕ
   pub others : List (List ℕ)
   pub are : ls ≡ first ∷ next ∷ others
-  pub cells : header_read (split 32 first) ≡ some g
+  pub cells : header_read (split 32 first) ≡ Some g
   pub rest : lines_read 0 (suc (length first)) (next ∷ others) ≡ good items
 
 says : (g : ℕ) (items : List Item) (ls : List (List ℕ)) → text_read ls ≡ card g items → Says g items ls
@@ -137,15 +141,15 @@ says g items (l ∷ m ∷ more) e = by (header_read (split 32 l)) refl (lines_re
   where
     by : (o : Option ℕ) → header_read (split 32 l) ≡ o → (r : Lines) → lines_read 0 (suc (length l)) (m ∷ more) ≡ r →
         headed o r ≡ card g items → Says g items (l ∷ m ∷ more)
-    by none p r t q = impossible cc
-    by (some cells) p (bad number place) t q = impossible cc
-    by (some cells) p (good found) t q =
+    by None p r t q = impossible cc
+    by (Some cells) p (bad number place) t q = impossible cc
+    by (Some cells) p (good found) t q =
         let number : cells ≡ g = cc in
         let list : found ≡ items = cc in
-        record { first = l; next = m; others = more; are = refl; cells = p ∙ ap some number; rest = t ∙ ap good list }
+        record { first = l; next = m; others = more; are = refl; cells = p ∙ ap Some number; rest = t ∙ ap good list }
 
 pub text_back : (last : ℤ) (text : List ℕ) (g : ℕ) (items : List Item) → g < 10 ^ 20 → AllNamed items →
-    first_against last 0 items ≡ none → said text ≡ card g items → text ≡ text_of g (words_of items)
+    first_against last 0 items ≡ None → said text ≡ card g items → text ≡ text_of g (words_of items)
 unfolding join
 text_back last text g items h named rules e =
     let s = says g items (split 10 text) e in

@@ -9,23 +9,24 @@ use lib.Dec.{eqb}
 use lib.ListN.{drop, drop_of_length-le, length, length-drop, length-set, set, take}
 use lib.Seq.{drop-drop, length-take-le}
 use Rattle.machine.proofs.Lists.{less_or_not}
-use Rattle.digits.specs.declared.Decimal.{Decimal}
+use Rattle.std.specs.Prelude.{Ok, Err}
+use Rattle.std.specs.declared.result.Result as code
+use Rattle.card.specs.Result.{gives, number, refuses, told}
+use Rattle.card.specs.declared.refusals.Reason.{Reason}
+use Rattle.card.specs.declared.refusals.Reason.TheVariants.{TextAddress, TextLine}
+use Rattle.card.specs.declared.refusals.Refusal.{Refusal}
+use Rattle.std.proofs.lemmas.List.{take_all}
 use Rattle.words.specs.Words.{split, up_to}
 use Rattle.words.proofs.Clash.{impossible}
 use Rattle.words.proofs.Cuts.{cut, parts, whole}
+use Rattle.words.proofs.Walks.{up_to_most}
 use Rattle.importer.specs.Coding.{Stores, coded, coded_cells, coded_header, coded_items, coded_line, coded_lines, next_read, stored, with_line, with_next}
 use Rattle.importer.specs.Forms.{Item, Line, Lines, bad, before, good, header_read, judged, last_read, line_read, lines_read, right, wrong}
-use Rattle.importer.specs.declared.lines.Line.{Line as CodedLine}
-use Rattle.importer.specs.declared.lines.Line.TheVariants as line
-use Rattle.importer.specs.declared.lines.Lines.{Lines as CodedLines}
-use Rattle.importer.specs.declared.lines.Lines.TheVariants as lines
-use Rattle.importer.specs.declared.lines.Next.TheVariants as following
-use Rattle.importer.proofs.Spelling.{cut_at}
 
 -- ---- a line that is followed by a line feed
 
 pub next_cut : (index at : ℕ) (l r : List ℕ) →
-    next_read index at (l ∷ split 10 r) ≡ with_next (coded_line (line_read (split 32 l)) index) (at + suc (length l))
+    next_read index at (l ∷ split 10 r) ≡ with_next at (coded_line (line_read (split 32 l)) index) (at + suc (length l))
 next_cut index at l r = rw (parts 10 r).are
 
 pub lines_cut : (index at : ℕ) (l r : List ℕ) →
@@ -43,7 +44,8 @@ module _ (text : List ℕ) (at end : ℕ) (found : end ≡ at + length (up_to 10
       let size : end - at ≡ length (up_to 10 (drop at text)) = omega (arith, found) in
       let past : at + suc (end - at) ≡ end + 1 = omega (arith, k) in
       cut 10 (drop at text) (end - at) size (omega (arith, h, k, length-drop at text))
-      ∙ ap (λ (r : List ℕ). take (end - at) (drop at text) ∷ split 10 r) (drop-drop (suc (end - at)) at text ∙ ap (λ (n : ℕ). drop n text) past)
+      ∙ ap (λ (r : List ℕ). take (end - at) (drop at text) ∷ split 10 r) (drop-drop (suc (end - at)) at text
+      ∙ ap (λ (n : ℕ). drop n text) past)
 
   pub line_whole : end ≡ length text → split 10 (drop at text) ≡ drop at text ∷ []
   line_whole h = whole 10 (drop at text) (omega (arith, h, found, length-drop at text))
@@ -52,9 +54,9 @@ module _ (text : List ℕ) (at end : ℕ) (found : end ≡ at + length (up_to 10
   line_size h k = length-take-le (end - at) (drop at text) (omega (arith, h, k, length-drop at text))
 
   -- what was read of that line
-  pub next_at : (index : ℕ) → end < length text → (coded : CodedLine) →
+  pub next_at : (index : ℕ) → end < length text → (coded : code.Result ℕ Reason) →
       coded_line (line_read (split 32 (take (end - at) (drop at text)))) index ≡ coded →
-      next_read index at (split 10 (drop at text)) ≡ with_next coded (end + 1)
+      next_read index at (split 10 (drop at text)) ≡ with_next at coded (end + 1)
   next_at index h coded e =
       let here : at ≤ end = omega (arith, found) in
       let past : at + suc (end - at) ≡ end + 1 = omega (arith, here) in
@@ -62,13 +64,21 @@ module _ (text : List ℕ) (at end : ℕ) (found : end ≡ at + length (up_to 10
       ∙ next_cut index at (take (end - at) (drop at text)) (drop (end + 1) text)
       ∙ rw (line_size (omega (arith, h)) here, past, e)
 
--- the same of the first line
-pub header_at : (text : List ℕ) (end : ℕ) → end ≡ 0 + length (up_to 10 text) → end < length text → (coded : Decimal) →
-    coded_cells (header_read (split 32 (take end text))) ≡ coded → coded_header (split 10 text) ≡ with_line coded (end + 1)
-header_at text end found h coded e =
-    let p = parts 10 (drop (end + 1) text) in
-    ap coded_header (cut_at 10 text end found h)
-    ∙ rw (p.are, length-take-le end text (omega (arith, h)), e, add-one)
+-- the same of a line that stands in front of the first line feed from `at` on
+pub line_at : (text l r : List ℕ) (at index : ℕ) (coded : code.Result ℕ Reason) → at < length text →
+    split 10 (take (length text - at) (drop at text)) ≡ l ∷ split 10 r →
+    coded_line (line_read (split 32 l)) index ≡ coded →
+    next_read index at (split 10 (drop at text)) ≡ with_next at coded (at + length l + 1)
+line_at text l r at index coded h first e =
+    let all : take (length text - at) (drop at text) ≡ drop at text =
+    take_all _ _ (omega (arith, length-drop at text)) in
+    let next : at + suc (length l) ≡ at + length l + 1 = omega arith in
+    ap (next_read index at) (sym (ap (split 10) all) ∙ first) ∙ next_cut index at l r ∙ rw (e, next)
+
+-- and of the header's
+pub header_cut : (l r : List ℕ) →
+    coded_header (l ∷ split 10 r) ≡ with_line (coded_cells (header_read (split 32 l))) (suc (length l))
+header_cut l r = rw (parts 10 r).are
 
 -- ---- what a line that is read says of all lines
 
@@ -76,41 +86,46 @@ last_bad : (l : List ℕ) (at : ℕ) → 1 ≤ length l → last_read l at ≡ b
 last_bad [] at h = absurd (omega (arith, h))
 last_bad (b ∷ rest) at h = refl
 
+ok_parts : {a b c d : ℕ} → ◌≡◌ {A = code.Result (ℕ × ℕ) Refusal} (Ok (a, b)) (Ok (c, d)) → (a ≡ c) × (b ≡ d)
+ok_parts {a} {b} {c} {d} e =
+    let same : ◌≡◌ {A = ℕ × ℕ} (a, b) (c, d) = cc in
+    (ap (λ (p : ℕ × ℕ). p.0) same, ap (λ (p : ℕ × ℕ). p.1) same)
+
 module _ (index at : ℕ) (rest : Lines) where
-  judged_bad : (l : Line) (next number : ℕ) → with_next (coded_line l index) next ≡ following.Bad number →
-      judged l index at rest ≡ bad number at
-  judged_bad wrong next number e = let same : 41 ≡ number = cc in rw (← same)
-  judged_bad (right address item) next number e = by (eqb address index) e
+  judged_bad : (l : Line) (next : ℕ) (r : Refusal) → with_next at (coded_line l index) next ≡ Err r →
+      judged l index at rest ≡ bad (number r.reason) r.place
+  judged_bad wrong next r e = let same : record { reason = TextLine; place = at } ≡ r = cc in rw (← same)
+  judged_bad (right address item) next r e = by (eqb address index) e
     where
-      by : (t : Bool) → with_next (cond t (line.Word (coded item)) (line.Bad 42)) next ≡ following.Bad number →
-          cond t (before item rest) (bad 42 at) ≡ bad number at
+      by : (t : Bool) → with_next at (cond t (Ok (coded item)) (Err TextAddress)) next ≡ Err r →
+          cond t (before item rest) (bad 42 at) ≡ bad (number r.reason) r.place
       by true q = impossible cc
-      by false q = let same : 42 ≡ number = cc in rw (← same)
+      by false q = let same : record { reason = TextAddress; place = at } ≡ r = cc in rw (← same)
 
   record Judged (l : Line) (word : ℕ) : Type 0 where
     pub item : Item
     pub is : coded item ≡ word
     pub first : judged l index at rest ≡ before item rest
 
-  judged_good : (l : Line) (next word after : ℕ) → with_next (coded_line l index) next ≡ following.Line word after →
+  judged_good : (l : Line) (next word after : ℕ) → with_next at (coded_line l index) next ≡ Ok (word, after) →
       Judged l word
   judged_good wrong next word after e = impossible cc
   judged_good (right address item) next word after e = by (eqb address index) refl e
     where
       by : (t : Bool) → eqb address index ≡ t →
-          with_next (cond t (line.Word (coded item)) (line.Bad 42)) next ≡ following.Line word after →
+          with_next at (cond t (Ok (coded item)) (Err TextAddress)) next ≡ Ok (word, after) →
           Judged (right address item) word
-      by true t q = record { item = item; is = cc; first = rw t }
+      by true t q = record { item = item; is = (ok_parts q).0; first = rw t }
       by false t q = impossible cc
 
-next_is : (l : Line) (index next word after : ℕ) → with_next (coded_line l index) next ≡ following.Line word after →
+next_is : (l : Line) (index at next word after : ℕ) → with_next at (coded_line l index) next ≡ Ok (word, after) →
     next ≡ after
-next_is wrong index next word after e = impossible cc
-next_is (right address item) index next word after e = by (eqb address index) e
+next_is wrong index at next word after e = impossible cc
+next_is (right address item) index at next word after e = by (eqb address index) e
   where
-    by : (t : Bool) → with_next (cond t (line.Word (coded item)) (line.Bad 42)) next ≡ following.Line word after →
+    by : (t : Bool) → with_next at (cond t (Ok (coded item)) (Err TextAddress)) next ≡ Ok (word, after) →
         next ≡ after
-    by true q = cc
+    by true q = (ok_parts q).1
     by false q = impossible cc
 
 -- the lines of a text from `at` on
@@ -144,38 +159,31 @@ module _ (text : List ℕ) (index at : ℕ) (h : at < length text) where
 
   next_here : end < length text →
       next_read index at (split 10 (drop at text))
-      ≡ with_next (coded_line (line_read (split 32 (take (end - at) (drop at text)))) index) (end + 1)
+      ≡ with_next at (coded_line (line_read (split 32 (take (end - at) (drop at text)))) index) (end + 1)
   unfolding end
   next_here less = next_at text at end refl index less _ refl
 
-  up_to_lem : (l : List ℕ) → length (up_to 10 l) ≤ length l
-  unfolding up_to
-  up_to_lem [] = omega arith
-  up_to_lem (b ∷ more) = by (eqb b 10) (up_to_lem more)
-    where
-      by : (t : Bool) → length (up_to 10 more) ≤ length more → length (cond t [] (b ∷ up_to 10 more)) ≤ suc (length more)
-      by true e = omega arith
-      by false e = omega (arith, e)
-
   unended : length text ≤ end → split 10 (drop at text) ≡ drop at text ∷ []
   unfolding end
-  unended most = line_whole text at end refl (omega (arith, most, up_to_lem (drop at text), length-drop at text, h))
+  unended most = line_whole text at end refl (omega (arith, most, up_to_most 10 (drop at text), length-drop at text, h))
 
   -- a line that isn't right
-  pub stops : (number : ℕ) → next_read index at (split 10 (drop at text)) ≡ following.Bad number →
-      lines_read index at (split 10 (drop at text)) ≡ bad number at
+  pub stops : (r : Refusal) → next_read index at (split 10 (drop at text)) ≡ Err r →
+      lines_read index at (split 10 (drop at text)) ≡ bad (number r.reason) r.place
   unfolding from lines_read
-  stops number e =
+  stops r e =
       less_or_not end (length text)
-      (λ less. cut_here less ∙ judged_bad index at rest (line_read (split 32 (take (end - at) (drop at text)))) (end + 1) number (sym (next_here less) ∙ e))
+      (λ less.
+      let l = line_read (split 32 (take (end - at) (drop at text))) in
+      cut_here less ∙ judged_bad index at rest l (end + 1) r (sym (next_here less) ∙ e))
       (λ most.
       let alone = unended most in
-      let last : following.Bad 41 ≡ following.Bad number = sym (ap (next_read index at) alone) ∙ e in
-      let same : 41 ≡ number = cc in
+      let last : Err (record { reason = TextLine; place = at }) ≡ Err r = sym (ap (next_read index at) alone) ∙ e in
+      let same : record { reason = TextLine; place = at } ≡ r = cc in
       ap (lines_read index at) alone ∙ last_bad (drop at text) at (omega (arith, h, length-drop at text)) ∙ rw (← same))
 
   -- a line that is
-  pub goes_on : (word next : ℕ) → next_read index at (split 10 (drop at text)) ≡ following.Line word next →
+  pub goes_on : (word next : ℕ) → next_read index at (split 10 (drop at text)) ≡ Ok (word, next) →
       Step text index at word next
   unfolding end from rest
   goes_on word next e =
@@ -184,7 +192,7 @@ module _ (text : List ℕ) (index at : ℕ) (h : at < length text) where
       let l : Line = line_read (split 32 (take (end - at) (drop at text))) in
       let read = sym (next_here less) ∙ e in
       let j = judged_good index at rest l (end + 1) word next read in
-      let after : end + 1 ≡ next = next_is l index (end + 1) word next read in
+      let after : end + 1 ≡ next = next_is l index at (end + 1) word next read in
       record {
         item = j.item;
         is = j.is;
@@ -196,13 +204,15 @@ module _ (text : List ℕ) (index at : ℕ) (h : at < length text) where
         inside = omega (arith, after, less);
       })
       (λ most.
-      let never : following.Bad 41 ≡ following.Line word next = sym (ap (next_read index at) (unended most)) ∙ e in
+      let never : Err (record { reason = TextLine; place = at }) ≡ Ok (word, next) =
+      sym (ap (next_read index at) (unended most)) ∙ e in
       impossible cc)
 
 -- ---- the loop
 
-count_on : (index : ℕ) (item : Item) (rest : Lines) → coded_lines index (before item rest) ≡ coded_lines (index + 1) rest
-count_on index item (good items) = ap lines.Count (omega arith)
+count_on : (index : ℕ) (item : Item) (rest : Lines) →
+    coded_lines index (before item rest) ≡ coded_lines (index + 1) rest
+count_on index item (good items) = ap gives (omega arith)
 count_on index item (bad number place) = refl
 
 store_on : (index word : ℕ) (item : Item) (rest : Lines) (words : List ℕ) → coded item ≡ word →
@@ -211,7 +221,7 @@ unfolding coded_items
 store_on index word item (good items) words is = rw (add-one, is)
 store_on index word item (bad number place) words is = refl
 
-none_stored : (read : Lines) (number place : ℕ) (words after : List ℕ) → coded_lines 0 read ≡ lines.Bad number place →
+none_stored : (read : Lines) (number place : ℕ) (words after : List ℕ) → coded_lines 0 read ≡ refuses number place →
     Stores read words after
 none_stored (good items) number place words after e = impossible cc
 none_stored (bad n p) number place words after e = record { all = λ items q. impossible cc }
@@ -220,14 +230,12 @@ none_stored (bad n p) number place words after e = record { all = λ items q. im
 abbrev lines_from : List ℕ → ℕ → ℕ → Lines
 lines_from text index at = lines_read index at (split 10 (drop at text))
 
--- a loop that began at `start` has come to instruction `index`, at byte `at`: what is left to count and to store is what makes the whole
+-- a loop that began at `start` has come to instruction `index`, at byte `at`: what is left to count and to store is
+-- what makes the whole
 pub record Going (text : List ℕ) (start : ℕ) (first words : List ℕ) (index at : ℕ) : Type 0 where
   pub counts : coded_lines 0 (lines_from text 0 start) ≡ coded_lines index (lines_from text index at)
   pub stores : stored 0 (lines_from text 0 start) first ≡ stored index (lines_from text index at) words
   pub long : length words ≡ length first
-
-pub begins : (text : List ℕ) (start : ℕ) (words : List ℕ) → Going text start words words 0 start
-begins text start words = record { counts = refl; stores = refl; long = refl }
 
 module _ {text : List ℕ} {start : ℕ} {first words : List ℕ} {index at : ℕ}
     (g : Going text start first words index at) where
@@ -237,26 +245,32 @@ module _ {text : List ℕ} {start : ℕ} {first words : List ℕ} {index at : �
       record {
         counts = g.counts ∙ ap (coded_lines index) s.first ∙ count_on index s.item (lines_from text (index + 1) next);
         stores =
-            g.stores ∙ ap (λ (r : Lines). stored index r words) s.first ∙ store_on index word s.item (lines_from text (index + 1) next) words s.is
+            g.stores ∙ ap (λ (r : Lines). stored index r words) s.first
+            ∙ store_on index word s.item (lines_from text (index + 1) next) words s.is
             ∙ ap (stored (index + 1) (lines_from text (index + 1) next)) (sym is);
         long = rw is (length-set words index word) ∙ g.long;
       }
 
-  pub record Read (answer : CodedLines) (after : List ℕ) : Type 0 where
-    pub answered : answer ≡ coded_lines 0 (lines_from text 0 start)
+  pub record Read (answer : code.Result ℕ Refusal) (after : List ℕ) : Type 0 where
+    pub answered : told (λ count. count) answer ≡ coded_lines 0 (lines_from text 0 start)
     pub kept : Stores (lines_from text 0 start) first after
 
-  pub stopped : (number : ℕ) (after : List ℕ) → at < length text →
-      next_read index at (split 10 (drop at text)) ≡ following.Bad number → Read (lines.Bad number at) after
-  stopped number after h e =
-      let found = g.counts ∙ ap (coded_lines index) (stops text index at h number e) in
-      record { answered = sym found; kept = none_stored (lines_from text 0 start) number at first after found }
+  pub stopped : (answer : code.Result ℕ Refusal) (r : Refusal) (after : List ℕ) → at < length text →
+      next_read index at (split 10 (drop at text)) ≡ Err r →
+      told (λ count. count) answer ≡ refuses (number r.reason) r.place →
+      Read answer after
+  stopped answer r after h e is =
+      let found = g.counts ∙ ap (coded_lines index) (stops text index at h r e) in
+      record {
+        answered = is ∙ sym found;
+        kept = none_stored (lines_from text 0 start) (number r.reason) r.place first after found;
+      }
 
-  pub ended : length text ≤ at → Read (lines.Count index) words
+  pub ended : length text ≤ at → Read (Ok index) words
   unfolding coded_items lines_read split
   ended h =
       let none : lines_from text index at ≡ good [] = rw (drop_of_length-le text h) in
       record {
-        answered = ap lines.Count (omega arith) ∙ sym (g.counts ∙ ap (coded_lines index) none);
+        answered = ap gives (omega arith) ∙ sym (g.counts ∙ ap (coded_lines index) none);
         kept = record { all = λ items e. sym (g.stores ∙ ap (λ (r : Lines). stored index r words) none) };
       }

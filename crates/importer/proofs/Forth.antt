@@ -2,7 +2,7 @@
 use Prim.Native.Nat.{ℕ, suc, ◌+◌, ◌-◌, ◌%◌, ◌^◌, ◌≤◌, ◌<◌}
 use mathlib.Core.Bool.{true, false}
 use mathlib.Core.List.{List, [], ◌∷◌, ◌++◌}
-use mathlib.Core.Option.{none, some}
+use Rattle.std.specs.Prelude.{None, Some}
 use mathlib.Core.Path.{◌≡◌, refl, ◌∙◌, ap}
 use native.Mathlib.Omega.{arith}
 use borrow.Author.Tests.{eq-eqb, le-leb, le-ltb, leb-true, lt-ltb}
@@ -20,7 +20,7 @@ use Rattle.instruction.specs.Rules.{Verdict}
 use Rattle.instruction.specs.Rules as verdict
 use Rattle.instruction.proofs.Checks.{passed}
 use Rattle.card.specs.Code.{first_bad, or_else, scan_of}
-use Rattle.card.specs.declared.scan.Scan.TheVariants.{Fine}
+use Rattle.card.specs.Code.{Fine}
 use Rattle.text.specs.Decimal.{decimal}
 use Rattle.machine.proofs.Every.{and_true}
 use Rattle.machine.proofs.Lists.{cases, less_or_not}
@@ -79,12 +79,18 @@ record Whole (b : ℕ) : Type 0 where
 whole : (b : ℕ) → b < 16777216 → Whole b
 whole b h =
     less_or_not b 8388608
-    (λ low. let sign = lt-ltb b 8388608 low in record { fits = rw sign (le-leb b 8388607 (omega (arith, low))); back = rw sign })
+    (λ low. let sign = lt-ltb b 8388608 low in record {
+      fits = rw sign (le-leb b 8388607 (omega (arith, low)));
+      back = rw sign;
+    })
     (λ high.
     let sign = le-ltb b 8388608 high in
     let less = lt-ltb b 16777216 h in
     let small : 16777216 - suc b ≤ 8388607 = omega (arith, high) in
-    record { fits = rw (sign, less, le-leb (16777216 - suc b) 8388607 small); back = rw (sign, less) (omega (arith, h)) })
+    record {
+      fits = rw (sign, less, le-leb (16777216 - suc b) 8388607 small);
+      back = rw (sign, less) (omega (arith, h));
+    })
 
 operand_fits : (w : ℕ) → in_bits (operand_of w) ≡ true
 operand_fits w = (whole (w % 16777216) (omega arith)).fits
@@ -104,7 +110,7 @@ length_items (w ∷ ws) = ap suc (length_items ws)
 
 -- none of them is against its rule
 pub none_against : (last : ℤ) (ws : List ℕ) (index : ℕ) → first_bad last index ws ≡ Fine →
-    first_against last index (items_of ws) ≡ none
+    first_against last index (items_of ws) ≡ None
 unfolding first_against items_of
 none_against last [] index e = refl
 none_against last (w ∷ ws) index e =
@@ -121,13 +127,15 @@ bare_zero Zero last (pos n) e h = ap pos (omega (arith, leb-true n 0 (and_true (
 bare_zero Zero last (negsuc n) e h = impossible cc
 
 module _ (last : ℤ) (w : ℕ) (r : Right last w) where
-  item_read_lem : item_read (name_of (opcode_of w) ∷ operand_words w) ≡ some (item_of w)
+  item_read_lem : item_read (name_of (opcode_of w) ∷ operand_words w) ≡ Some (item_of w)
   unfolding item_read
   item_read_lem =
       let known = (named (opcode_of w) r.opcode).found in
       cases (has_operand (rule_of (opcode_of w)))
       (λ has. rw (has, known, operand_read_lem (operand_of w) (told (operand_of w) (operand_fits w)), has))
-      (λ has. rw (has, known, has) (ap (λ (k : ℤ). some (record { opcode = opcode_of w; operand = k })) (bare_zero (rule_of (opcode_of w)) last (operand_of w) has r.rule)))
+      (λ has. rw (has, known, has)
+      (ap (λ (k : ℤ). Some (record { opcode = opcode_of w; operand = k }))
+      (bare_zero (rule_of (opcode_of w)) last (operand_of w) has r.rule)))
 
   line_read_lem : (index : ℕ) → index < 10000 →
       line_read (address_of index ∷ name_of (opcode_of w) ∷ operand_words w) ≡ right index (item_of w)
@@ -138,17 +146,22 @@ module _ (last : ℤ) (w : ℕ) (r : Right last w) where
       AllLack sep (address_of index ∷ name_of (opcode_of w) ∷ operand_words w)
   words_lack sep index h n =
       cases (has_operand (rule_of (opcode_of w)))
-      (λ has. rw has (address_lacks sep index (omega (arith, h)), (n, (signed_lacks sep (operand_of w) h (told (operand_of w) (operand_fits w)), tt))))
+      (λ has. rw has (
+        address_lacks sep index (omega (arith, h)),
+        (n, (signed_lacks sep (operand_of w) h (told (operand_of w) (operand_fits w)), tt)),
+      ))
       (λ has. rw has (address_lacks sep index (omega (arith, h)), (n, tt)))
 
   line_words : (index : ℕ) → split 32 (join 32 (address_of index ∷ name_of (opcode_of w) ∷ operand_words w))
       ≡ address_of index ∷ name_of (opcode_of w) ∷ operand_words w
-  line_words index = split_join 32 (address_of index) (name_of (opcode_of w) ∷ operand_words w) (words_lack 32 index (omega arith) (named (opcode_of w) r.opcode).no_space)
+  line_words index = split_join 32 (address_of index) (name_of (opcode_of w) ∷ operand_words w)
+      (words_lack 32 index (omega arith) (named (opcode_of w) r.opcode).no_space)
 
   line_alone : (index : ℕ) (rest : List ℕ) →
       split 10 (instruction_line index w ++ rest)
       ≡ join 32 (address_of index ∷ name_of (opcode_of w) ∷ operand_words w) ∷ split 10 rest
-  line_alone index rest = line_first (address_of index) (name_of (opcode_of w) ∷ operand_words w) rest (words_lack 10 index (omega arith) (named (opcode_of w) r.opcode).no_feed)
+  line_alone index rest = line_first (address_of index) (name_of (opcode_of w) ∷ operand_words w) rest
+      (words_lack 10 index (omega arith) (named (opcode_of w) r.opcode).no_feed)
 
 -- ---- all lines
 
@@ -168,10 +181,11 @@ lines_read_lem last (w ∷ ws) index place h e =
 
 -- ---- the header, and the whole text
 
-header_read_lem : (g : ℕ) → g < 10 ^ 20 → header_read (split 32 (join 32 (cells_word ∷ decimal g ∷ []))) ≡ some g
+header_read_lem : (g : ℕ) → g < 10 ^ 20 → header_read (split 32 (join 32 (cells_word ∷ decimal g ∷ []))) ≡ Some g
 unfolding bytes header_read lacks
 header_read_lem g h =
-    let words = split_join 32 cells_word (decimal g ∷ []) (refl, (decimal_lacks 32 (decimal g) (omega arith) (decimal_written g h), tt)) in
+    let words = split_join 32 cells_word (decimal g ∷ [])
+    (refl, (decimal_lacks 32 (decimal g) (omega arith) (decimal_written g h), tt)) in
     rw (words, same_self cells_word, decimal_written g h, decimal_read g h)
 
 pub text_says : (last : ℤ) (g : ℕ) (ws : List ℕ) → g < 10 ^ 20 → length ws ≤ 10000 → first_bad last 0 ws ≡ Fine →
@@ -179,6 +193,7 @@ pub text_says : (last : ℤ) (g : ℕ) (ws : List ℕ) → g < 10 ^ 20 → lengt
 unfolding bytes lacks
 text_says last g ws h many e =
     let words = cells_word ∷ decimal g ∷ [] in
-    let cut = line_first cells_word (decimal g ∷ []) (instruction_lines 0 ws) (refl, (decimal_lacks 10 (decimal g) (omega arith) (decimal_written g h), tt)) in
+    let cut = line_first cells_word (decimal g ∷ []) (instruction_lines 0 ws)
+    (refl, (decimal_lacks 10 (decimal g) (omega arith) (decimal_written g h), tt)) in
     let rest = lines_read_lem last ws 0 (suc (length (join 32 words))) (omega (arith, many)) e in
     ap text_read cut ∙ text_cut (join 32 words) (instruction_lines 0 ws) ∙ rw (header_read_lem g h, rest)

@@ -1,102 +1,33 @@
 -- Laws of names and operands in a line: what is found word by word is what the words spell. Assumes nothing.
-use Prim.Native.Nat.{ℕ, ◌+◌, ◌-◌, ◌*◌, ◌≤◌, ◌<◌}
+use Prim.Native.Nat.{ℕ}
 use mathlib.Core.Bool.{Bool, true, false, cond}
 use mathlib.Core.List.{List, [], ◌∷◌}
 use mathlib.Core.Logic.{◌≢◌}
-use mathlib.Core.Option.{Option, none, some}
+use Rattle.std.specs.Prelude.{IsErrAnd, Option, None, Some, Ok, Err}
+use Rattle.std.specs.Option.{ok_or}
+use Rattle.std.specs.declared.result.Result as code
 use mathlib.Core.Path.{◌≡◌, refl, sym, ◌∙◌, ap}
 use native.Mathlib.Omega.{arith}
-use native.Mathlib.Numerals.{add-one}
 use borrow.Author.Tests.{eq-eqb, ne_eqb}
+use lib.Dec.{eqb}
 use lib.IntN.{ℤ}
-use lib.ListN.{drop, length, take}
-use lib.Seq.{take-length}
-use Rattle.opcodes.specs.Page.{rule_of}
-use Rattle.instruction.specs.Word.{bits_of}
-use Rattle.card.proofs.Words.{rest}
-use Rattle.machine.proofs.Lists.{cases, clash, less_or_not}
+use Rattle.card.specs.declared.refusals.Reason.{Reason}
+use Rattle.card.specs.declared.refusals.Reason.TheVariants.{TextAddress, TextLine}
+use Rattle.machine.proofs.Lists.{cases, clash}
 use Rattle.digits.specs.Reading.{capped, decimal_of, is_decimal, value_of}
-use Rattle.digits.specs.declared.Decimal.TheVariants as decimal
 use Rattle.opcodes.specs.Ascii.{same}
-use Rattle.words.specs.Words.{lacks, split, up_to}
+use Rattle.words.specs.Words.{lacks, split}
 use Rattle.words.proofs.Clash.{impossible}
-use Rattle.words.proofs.Cuts.{cut, part_alone, two, whole}
-use Rattle.opcodes.specs.Rules.{has_operand}
+use Rattle.words.proofs.Cuts.{part_alone, two}
 use Rattle.names.specs.Names.{opcode_named}
-use Rattle.names.specs.declared.Named.{Named}
-use Rattle.names.specs.declared.Named.TheVariants.{Opcode, Unknown}
 use Rattle.lister.specs.Text.{cells_word}
-use Rattle.importer.specs.Coding.{address_read, coded, coded_cells, coded_entry, coded_line, coded_operand, placed_line}
+use Rattle.importer.specs.Coding.{address_read, coded, coded_cells, coded_entry, coded_line}
 use Rattle.importer.specs.Forms.{Item, addressed, bare_item, full_item, header_read, is_address, item_read, line_read, operand_read, right, wrong}
-use Rattle.importer.specs.Importing.{in_bits}
-use Rattle.importer.specs.declared.items.Entry.TheVariants as entry
-use Rattle.importer.specs.declared.lines.Address.{Address}
-use Rattle.importer.specs.declared.lines.Address.TheVariants as address
-use Rattle.importer.specs.declared.lines.Line.TheVariants as line
-use Rattle.importer.specs.declared.operands.Operand.TheVariants as operand
 use Rattle.importer.proofs.Numbers.{decimal_lacks, operand_lacks}
-
--- ---- where a text is cut: at its first separator, which `words::find` has found at r
-
-module _ (sep : ℕ) (l : List ℕ) (r : ℕ) (at : r ≡ 0 + length (up_to sep l)) where
-  pub cut_at : r < length l → split sep l ≡ take r l ∷ split sep (drop (r + 1) l)
-  cut_at h = rw add-one (cut sep l r (omega (arith, at)) h)
-
-  pub uncut : r ≡ length l → split sep l ≡ l ∷ []
-  uncut h = whole sep l (omega (arith, at, h))
-
-  pub all_taken : r ≡ length l → take r l ≡ l
-  all_taken h = rw h (take-length l)
-
--- ---- an instruction with and without an operand
-
-pub needs_operand : (opcode : ℕ) → has_operand (rule_of opcode) ≡ true →
-    entry.Wrong ≡ coded_entry (bare_item (Opcode opcode))
-needs_operand opcode e = rw e
-
-pub bare_is : (opcode : ℕ) → has_operand (rule_of opcode) ≡ false →
-    entry.Word (opcode * 16777216) ≡ coded_entry (bare_item (Opcode opcode))
-bare_is opcode e = rw e (ap entry.Word (omega arith))
-
-pub takes_none : (opcode : ℕ) (o : Option ℤ) → has_operand (rule_of opcode) ≡ false →
-    entry.Wrong ≡ coded_entry (full_item (Opcode opcode) o)
-takes_none opcode none e = refl
-takes_none opcode (some k) e = rw e
-
-module _ (opcode : ℕ) (has : has_operand (rule_of opcode) ≡ true) where
-  pub full_bits : (o : Option ℤ) (bits : ℕ) → coded_operand o ≡ operand.Bits bits →
-      entry.Word (opcode * 16777216 + bits) ≡ coded_entry (full_item (Opcode opcode) o)
-  full_bits none bits e = impossible cc
-  full_bits (some k) bits e = rw has (by (in_bits k) e)
-    where
-      by : (t : Bool) → cond t (operand.Bits (bits_of k)) operand.Beyond ≡ operand.Bits bits →
-          entry.Word (opcode * 16777216 + bits) ≡ entry.Word (cond t (opcode * 16777216 + bits_of k) 1)
-      by true q = let same : bits_of k ≡ bits = cc in ap (λ (b : ℕ). entry.Word (opcode * 16777216 + b)) (sym same)
-      by false q = impossible cc
-
-  pub full_beyond : (o : Option ℤ) → coded_operand o ≡ operand.Beyond →
-      entry.Word 1 ≡ coded_entry (full_item (Opcode opcode) o)
-  full_beyond none e = impossible cc
-  full_beyond (some k) e = rw has (by (in_bits k) e)
-    where
-      by : (t : Bool) → cond t (operand.Bits (bits_of k)) operand.Beyond ≡ operand.Beyond →
-          entry.Word 1 ≡ entry.Word (cond t (opcode * 16777216 + bits_of k) 1)
-      by true q = impossible cc
-      by false q = refl
-
-  pub full_wrong : (o : Option ℤ) → coded_operand o ≡ operand.Wrong →
-      entry.Wrong ≡ coded_entry (full_item (Opcode opcode) o)
-  full_wrong none e = refl
-  full_wrong (some k) e = by (in_bits k) e
-    where
-      by : (t : Bool) → cond t (operand.Bits (bits_of k)) operand.Beyond ≡ operand.Wrong →
-          entry.Wrong ≡ coded_entry (full_item (Opcode opcode) (some k))
-      by true q = impossible cc
-      by false q = impossible cc
 
 -- ---- the words behind an address
 
-pub no_name : (name : List ℕ) (others : List (List ℕ)) → opcode_named name ≡ Unknown → item_read (name ∷ others) ≡ none
+pub no_name : (name : List ℕ) (others : List (List ℕ)) → opcode_named name ≡ None → item_read (name ∷ others) ≡ None
 unfolding item_read
 no_name name [] e = rw e
 no_name name (k ∷ []) e = rw e
@@ -111,26 +42,33 @@ one_word name w =
     let t = two 32 w e in
     rw (t.are, unread (operand_read w) refl e) (nothing (opcode_named name)))
   where
-    unread : (o : Option ℤ) → operand_read w ≡ o → lacks 32 w ≡ false → operand_read w ≡ none
-    unread none q e = q
-    unread (some k) q e = clash (operand_lacks 32 w k (omega arith) q) e
+    unread : (o : Option ℤ) → operand_read w ≡ o → lacks 32 w ≡ false → operand_read w ≡ None
+    unread None q e = q
+    unread (Some k) q e = clash (operand_lacks 32 w k (omega arith) q) e
 
-    nothing : (n : Named) → none ≡ full_item n none
-    nothing (Opcode opcode) = refl
-    nothing Unknown = refl
+    nothing : (n : Option ℕ) → None ≡ full_item n None
+    nothing (Some opcode) = refl
+    nothing None = refl
 
 -- ---- an address in its place
 
-pub no_address : (a : Address) (word index : ℕ) → a ≡ address.Wrong → line.Bad 41 ≡ placed_line a word index
-no_address a word index e = rw e
+-- a line of the right form but for its address
+abbrev pub placed_line : Option ℕ → ℕ → ℕ → code.Result ℕ Reason
+placed_line None word index = Err TextLine
+placed_line (Some at) word index = cond (eqb at index) (Ok word) (Err TextAddress)
 
-pub in_place : (a : Address) (at word index : ℕ) → a ≡ address.Number at → at ≡ index →
-    line.Word word ≡ placed_line a word index
-in_place a at word index e same = rw (e, eq-eqb at index same)
+pub in_place : (at word index : ℕ) → at ≡ index → Ok word ≡ placed_line (Some at) word index
+in_place at word index same = rw (eq-eqb at index same)
 
-pub out_of_place : (a : Address) (at word index : ℕ) → a ≡ address.Number at → at ≢ index →
-    line.Bad 42 ≡ placed_line a word index
-out_of_place a at word index e other = rw (e, ne_eqb at index other)
+pub out_of_place : (at word index : ℕ) → at ≢ index → Err TextAddress ≡ placed_line (Some at) word index
+out_of_place at word index other = rw (ne_eqb at index other)
+
+-- where a part of the line has another form, `?` hands on 41
+pub wrong_part : (r : code.Result ℕ Reason) (d : Reason) (o : Option ℕ) → IsErrAnd r (λ e. e ≡ d) →
+    ◌≡◌ {A = code.Result ℕ Reason} (Err d) (ok_or o TextLine) → r ≡ Err TextLine
+wrong_part (Ok word) d o h e = absurd h
+wrong_part (Err reason) d None h e = ap Err h ∙ e
+wrong_part (Err reason) d (Some word) h e = impossible cc
 
 -- ---- the words of a line
 
@@ -138,41 +76,41 @@ pub lone : (word : List ℕ) → line_read (word ∷ []) ≡ wrong
 unfolding item_read line_read
 lone word = by (is_address word)
   where
-    by : (t : Bool) → cond t (addressed (value_of word) none) wrong ≡ wrong
+    by : (t : Bool) → cond t (addressed (value_of word) None) wrong ≡ wrong
     by true = refl
     by false = refl
 
 module _ (word : List ℕ) (rest : List (List ℕ)) where
-  pub no_item : (o : Option Item) → item_read rest ≡ o → coded_entry o ≡ entry.Wrong → line_read (word ∷ rest) ≡ wrong
+  pub no_item : (o : Option Item) → item_read rest ≡ o → coded_entry o ≡ None → line_read (word ∷ rest) ≡ wrong
   unfolding line_read
-  no_item none e q = rw e (by (is_address word))
+  no_item None e q = rw e (by (is_address word))
     where
       by : (t : Bool) → cond t wrong wrong ≡ wrong
       by true = refl
       by false = refl
-  no_item (some item) e q = impossible cc
+  no_item (Some item) e q = impossible cc
 
-  pub line_is : (o : Option Item) (w index : ℕ) → item_read rest ≡ o → coded_entry o ≡ entry.Word w →
+  pub line_is : (o : Option Item) (w index : ℕ) → item_read rest ≡ o → coded_entry o ≡ Some w →
       placed_line (address_read word) w index ≡ coded_line (line_read (word ∷ rest)) index
   unfolding line_read
-  line_is none w index e q = impossible cc
-  line_is (some item) w index e q =
+  line_is None w index e q = impossible cc
+  line_is (Some item) w index e q =
       let same : coded item ≡ w = cc in
       rw (e, ← same) (by (is_address word))
     where
-      by : (t : Bool) → placed_line (cond t (address.Number (value_of word)) address.Wrong) (coded item) index
+      by : (t : Bool) → placed_line (cond t (Some (value_of word)) None) (coded item) index
           ≡ coded_line (cond t (right (value_of word) item) wrong) index
       by true = refl
       by false = refl
 
 -- ---- the words of a header
 
-pub no_number : (word : List ℕ) → coded_cells (header_read (word ∷ [])) ≡ decimal.Wrong
+pub no_number : (word : List ℕ) → coded_cells (header_read (word ∷ [])) ≡ None
 unfolding header_read
 no_number word = refl
 
 pub other_word : (word : List ℕ) (others : List (List ℕ)) → same word cells_word ≡ false →
-    coded_cells (header_read (word ∷ others)) ≡ decimal.Wrong
+    coded_cells (header_read (word ∷ others)) ≡ None
 unfolding header_read
 other_word word [] e = refl
 other_word word (number ∷ []) e = rw e
@@ -188,64 +126,53 @@ cells_is word w e =
     let t = two 32 w l in
     rw t.are (unread (is_decimal w) refl l))
   where
-    by : (t : Bool) → coded_cells (cond t (some (value_of w)) none)
-        ≡ cond t (decimal.Value (capped (value_of w))) decimal.Wrong
+    by : (t : Bool) → coded_cells (cond t (Some (value_of w)) None)
+        ≡ cond t (Some (capped (value_of w))) None
     by true = refl
     by false = refl
 
     unread : (t : Bool) → is_decimal w ≡ t → lacks 32 w ≡ false →
-        decimal.Wrong ≡ cond t (decimal.Value (capped (value_of w))) decimal.Wrong
+        None ≡ cond t (Some (capped (value_of w))) None
     unread true q l = clash (decimal_lacks 32 w (omega arith) q) l
     unread false q l = refl
 
--- ---- the same of bytes in which the first space was found at r
+-- ---- the same of bytes with no space in them
 
-module _ (l : List ℕ) (r : ℕ) (at : r ≡ 0 + length (up_to 32 l)) where
-  -- a name that isn't known
-  pub unknown : r ≤ length l → opcode_named (take r l) ≡ Unknown → item_read (split 32 l) ≡ none
-  unknown most e =
-      less_or_not r (length l) (λ less. ap item_read (cut_at 32 l r at less) ∙ no_name (take r l) (split 32 (drop (r + 1) l)) e)
-      (λ all.
-      let end : r ≡ length l = omega (arith, most, all) in
-      ap item_read (uncut 32 l r at end) ∙ no_name l [] (ap opcode_named (sym (all_taken 32 l r at end)) ∙ e))
+module _ (l : List ℕ) (alone : split 32 l ≡ l ∷ []) where
+  -- a name that isn't known, and one that is
+  pub unknown_alone : opcode_named l ≡ None → item_read (split 32 l) ≡ None
+  unknown_alone e = rw alone (no_name l [] e)
 
-  -- a name alone, and one with more behind it
-  pub bare_item_lem : (opcode : ℕ) → r ≡ length l → opcode_named (take r l) ≡ Opcode opcode →
-      bare_item (Opcode opcode) ≡ item_read (split 32 l)
+  pub bare_item_lem : (opcode : ℕ) → opcode_named l ≡ Some opcode → bare_item (Some opcode) ≡ item_read (split 32 l)
   unfolding item_read
-  bare_item_lem opcode end e = rw (uncut 32 l r at end) (ap bare_item (sym e ∙ ap opcode_named (all_taken 32 l r at end)))
+  bare_item_lem opcode e = rw alone (ap bare_item (sym e))
 
-  pub full_item_lem : (opcode : ℕ) → r < length l → opcode_named (take r l) ≡ Opcode opcode →
-      full_item (Opcode opcode) (operand_read (take (length l - (r + 1)) (drop (r + 1) l))) ≡ item_read (split 32 l)
-  full_item_lem opcode less e =
-      let left = rest (r + 1) l in
-      sym (ap item_read (cut_at 32 l r at less) ∙ one_word (take r l) (drop (r + 1) l) ∙ rw (e, left))
+-- ---- and of bytes with a first space, which stands between a and b
+
+module _ (l a b : List ℕ) (at : split 32 l ≡ a ∷ split 32 b) where
+  pub unknown : opcode_named a ≡ None → item_read (split 32 l) ≡ None
+  unknown e = ap item_read at ∙ no_name a (split 32 b) e
+
+  pub full_item_lem : (opcode : ℕ) → opcode_named a ≡ Some opcode →
+      full_item (Some opcode) (operand_read b) ≡ item_read (split 32 l)
+  full_item_lem opcode e =
+      sym (ap item_read at ∙ one_word a b ∙ ap (λ (n : Option ℕ). full_item n (operand_read b)) e)
 
   -- an address with a right item behind it, and with none
-  pub line_wrong : r < length l →
-      coded_entry (item_read (split 32 (take (length l - (r + 1)) (drop (r + 1) l)))) ≡ entry.Wrong →
-      line_read (split 32 l) ≡ wrong
-  line_wrong less e =
-      let item : coded_entry (item_read (split 32 (drop (r + 1) l))) ≡ entry.Wrong = ap (λ (w : List ℕ). coded_entry (item_read (split 32 w))) (sym (rest (r + 1) l)) ∙ e in
-      ap line_read (cut_at 32 l r at less) ∙ no_item (take r l) (split 32 (drop (r + 1) l)) _ refl item
+  pub line_wrong : coded_entry (item_read (split 32 b)) ≡ None → line_read (split 32 l) ≡ wrong
+  line_wrong e = ap line_read at ∙ no_item a (split 32 b) _ refl e
 
-  pub line_right : (word index : ℕ) (a : Address) → r < length l →
-      coded_entry (item_read (split 32 (take (length l - (r + 1)) (drop (r + 1) l)))) ≡ entry.Word word →
-      a ≡ address_read (take r l) →
-      placed_line a word index ≡ coded_line (line_read (split 32 l)) index
-  line_right word index a less e is =
-      let item : coded_entry (item_read (split 32 (drop (r + 1) l))) ≡ entry.Word word = ap (λ (w : List ℕ). coded_entry (item_read (split 32 w))) (sym (rest (r + 1) l)) ∙ e in
+  pub line_right : (word index : ℕ) (address : Option ℕ) → coded_entry (item_read (split 32 b)) ≡ Some word →
+      address ≡ address_read a → placed_line address word index ≡ coded_line (line_read (split 32 l)) index
+  line_right word index address e is =
       rw is
-      (line_is (take r l) (split 32 (drop (r + 1) l)) _ word index refl item
-      ∙ ap (λ (ps : List (List ℕ)). coded_line (line_read ps) index) (sym (cut_at 32 l r at less)))
+      (line_is a (split 32 b) _ word index refl e
+      ∙ ap (λ (ps : List (List ℕ)). coded_line (line_read ps) index) (sym at))
 
   -- a header's number
-  pub other_header : r < length l → same (take r l) cells_word ≡ false →
-      coded_cells (header_read (split 32 l)) ≡ decimal.Wrong
-  other_header less e = ap (λ (ps : List (List ℕ)). coded_cells (header_read ps)) (cut_at 32 l r at less) ∙ other_word (take r l) (split 32 (drop (r + 1) l)) e
+  pub other_header : same a cells_word ≡ false → coded_cells (header_read (split 32 l)) ≡ None
+  other_header e = ap (λ (ps : List (List ℕ)). coded_cells (header_read ps)) at ∙ other_word a (split 32 b) e
 
-  pub header_is : r < length l → same (take r l) cells_word ≡ true →
-      decimal_of (take (length l - (r + 1)) (drop (r + 1) l)) ≡ coded_cells (header_read (split 32 l))
-  header_is less e =
-      ap decimal_of (rest (r + 1) l) ∙ sym (cells_is (take r l) (drop (r + 1) l) e)
-      ∙ ap (λ (ps : List (List ℕ)). coded_cells (header_read ps)) (sym (cut_at 32 l r at less))
+  pub header_is : same a cells_word ≡ true → decimal_of b ≡ coded_cells (header_read (split 32 l))
+  header_is e =
+      sym (cells_is a b e) ∙ ap (λ (ps : List (List ℕ)). coded_cells (header_read ps)) (sym at)

@@ -1,9 +1,10 @@
--- Laws of single words, read after they were written and written after they were read: operands, addresses, lines. Assumes nothing.
+-- Laws of single words, read after they were written and written after they were read: operands, addresses, lines.
+-- Assumes nothing.
 use Prim.Native.Nat.{ℕ, suc, ◌-◌, ◌^◌, ◌≤◌, ◌<◌}
 use mathlib.Core.Bool.{Bool, true, false, cond, not, ◌&&◌}
 use mathlib.Core.List.{List, [], ◌∷◌, ◌++◌, append_assoc}
 use mathlib.Core.Logic.{◌≢◌}
-use mathlib.Core.Option.{none, some}
+use Rattle.std.specs.Prelude.{None, Some}
 use mathlib.Core.Path.{◌≡◌, refl, sym, ◌∙◌, ap}
 use native.Mathlib.Omega.{arith}
 use borrow.Author.Tests.{eqb-false, eqb-true, leb-true, ne_eqb, not-true}
@@ -48,21 +49,23 @@ told (pos n) e = omega (arith, leb-true n 8388607 e)
 told (negsuc n) e = omega (arith, leb-true n 8388607 (and_true (leb n 8388607) true e).0)
 
 -- what was written is read
-pub operand_read_lem : (k : ℤ) → Told k → operand_read (signed k) ≡ some k
+pub operand_read_lem : (k : ℤ) → Told k → operand_read (signed k) ≡ Some k
 unfolding operand_read
 operand_read_lem (pos n) h =
     let right = decimal_written n h in
     let b = begins (decimal n) right in
     sym (first_other (decimal n) b.some_byte b.no_minus) ∙ rw (right, decimal_read n h)
-operand_read_lem (negsuc n) h = rw (decimal_written (suc n) h, decimal_read (suc n) h, ne_eqb (suc n) 0 (λ e. omega (arith, e))) (ap (λ (m : ℕ). some (negsuc m)) (omega arith))
+operand_read_lem (negsuc n) h =
+    rw (decimal_written (suc n) h, decimal_read (suc n) h, ne_eqb (suc n) 0 (λ e. omega (arith, e)))
+    (ap (λ (m : ℕ). Some (negsuc m)) (omega arith))
 
 -- what was read is written
-pub operand_back : (word : List ℕ) (k : ℤ) → operand_read word ≡ some k → Told k → signed k ≡ word
+pub operand_back : (word : List ℕ) (k : ℤ) → operand_read word ≡ Some k → Told k → signed k ≡ word
 unfolding operand_read
 operand_back [] k e h = impossible cc
 operand_back (b ∷ rest) k e h = by (eqb b 45) refl e
   where
-    plain : (t : Bool) → is_decimal (b ∷ rest) ≡ t → cond t (some (pos (value_of (b ∷ rest)))) none ≡ some k →
+    plain : (t : Bool) → is_decimal (b ∷ rest) ≡ t → cond t (Some (pos (value_of (b ∷ rest)))) None ≡ Some k →
         signed k ≡ b ∷ rest
     plain true t q =
         let same : pos (value_of (b ∷ rest)) ≡ k = cc in
@@ -71,17 +74,18 @@ operand_back (b ∷ rest) k e h = by (eqb b 45) refl e
     plain false t q = impossible cc
 
     minus : (t : Bool) → (is_decimal rest && not (eqb (value_of rest) 0)) ≡ t → b ≡ 45 →
-        cond t (some (negsuc (value_of rest - 1))) none ≡ some k → signed k ≡ b ∷ rest
+        cond t (Some (negsuc (value_of rest - 1))) None ≡ Some k → signed k ≡ b ∷ rest
     minus true t first q =
         let both = and_true (is_decimal rest) (not (eqb (value_of rest) 0)) t in
         let least = eqb-false (value_of rest) 0 (not-true (eqb (value_of rest) 0) both.1) in
         let same : negsuc (value_of rest - 1) ≡ k = cc in
         let size : suc (value_of rest - 1) ≡ value_of rest = omega (arith, least) in
         let small : suc (value_of rest - 1) < 10 ^ 20 = rw (← same) at h in
-        ap signed (sym same) ∙ rw first (ap (λ (l : List ℕ). 45 ∷ l) (ap decimal size ∙ reads_back rest both.0 (rw size at small)))
+        ap signed (sym same) ∙ rw first
+        (ap (λ (l : List ℕ). 45 ∷ l) (ap decimal size ∙ reads_back rest both.0 (rw size at small)))
     minus false t first q = impossible cc
 
-    by : (t : Bool) → eqb b 45 ≡ t → cond t (minus_read rest) (plain_read (b ∷ rest)) ≡ some k → signed k ≡ b ∷ rest
+    by : (t : Bool) → eqb b 45 ≡ t → cond t (minus_read rest) (plain_read (b ∷ rest)) ≡ Some k → signed k ≡ b ∷ rest
     by true t q = minus (is_decimal rest && not (eqb (value_of rest) 0)) refl (eqb-true b 45 t) q
     by false t q = plain (is_decimal (b ∷ rest)) refl q
 
@@ -89,7 +93,9 @@ operand_back (b ∷ rest) k e h = by (eqb b 45) refl e
 pub signed_lacks : (sep : ℕ) (k : ℤ) → sep < 45 → Told k → lacks sep (signed k) ≡ true
 unfolding lacks
 signed_lacks sep (pos n) h t = decimal_lacks sep (decimal n) (omega (arith, h)) (decimal_written n t)
-signed_lacks sep (negsuc n) h t = rw (ne_eqb 45 sep (λ e. omega (arith, e, h))) (decimal_lacks sep (decimal (suc n)) (omega (arith, h)) (decimal_written (suc n) t))
+signed_lacks sep (negsuc n) h t =
+    rw (ne_eqb 45 sep (λ e. omega (arith, e, h)))
+    (decimal_lacks sep (decimal (suc n)) (omega (arith, h)) (decimal_written (suc n) t))
 
 -- ---- addresses
 
@@ -113,14 +119,17 @@ address_back word e =
 pub line_is : (word : List ℕ) (others : List (List ℕ)) → line word others ≡ join 32 (word ∷ others) ++ 10 ∷ []
 unfolding join line
 line_is word [] = refl
-line_is word (next ∷ others) = ap (λ (l : List ℕ). word ++ 32 ∷ l) (line_is next others) ∙ sym (append_assoc word (32 ∷ join 32 (next ∷ others)) (10 ∷ []))
+line_is word (next ∷ others) = ap (λ (l : List ℕ). word ++ 32 ∷ l) (line_is next others)
+    ∙ sym (append_assoc word (32 ∷ join 32 (next ∷ others)) (10 ∷ []))
 
 -- what follows a line
 pub line_then : (word : List ℕ) (others : List (List ℕ)) (rest : List ℕ) →
     line word others ++ rest ≡ join 32 (word ∷ others) ++ 10 ∷ rest
-line_then word others rest = ap (λ (l : List ℕ). l ++ rest) (line_is word others) ∙ append_snoc (join 32 (word ∷ others)) 10 rest
+line_then word others rest = ap (λ (l : List ℕ). l ++ rest) (line_is word others)
+    ∙ append_snoc (join 32 (word ∷ others)) 10 rest
 
 -- the first line is cut off at its line feed
 pub line_first : (word : List ℕ) (others : List (List ℕ)) (rest : List ℕ) → AllLack 10 (word ∷ others) →
     split 10 (line word others ++ rest) ≡ join 32 (word ∷ others) ∷ split 10 rest
-line_first word others rest h = ap (split 10) (line_then word others rest) ∙ part_first 10 (join 32 (word ∷ others)) rest (lacks_join 32 10 word others refl h)
+line_first word others rest h = ap (split 10) (line_then word others rest)
+    ∙ part_first 10 (join 32 (word ∷ others)) rest (lacks_join 32 10 word others refl h)

@@ -1,14 +1,11 @@
 -- "The importer takes exactly such texts": the form of a text, line by line, and the first line that has another.
-use Rattle.std.specs.Prelude.{ℕ, suc, ◌+◌, ◌-◌, Bool, cond, not, ◌&&◌, List, [], ◌∷◌, eqb, ℤ, pos, negsuc, length}
-use Rattle.std.proofs.Math.Option.{Option, none, some}
+use Rattle.std.specs.Prelude.{ℕ, suc, ◌+◌, ◌-◌, Bool, cond, not, ◌&&◌, List, [], ◌∷◌, Option, Some, None, eqb, ℤ, pos, negsuc, length}
 use Rattle.opcodes.specs.Page.{rule_of}
 use Rattle.digits.specs.Reading.{all_digits, is_decimal, value_of}
 use Rattle.opcodes.specs.Ascii.{same}
 use Rattle.words.specs.Words.{split}
 use Rattle.opcodes.specs.Rules.{has_operand}
 use Rattle.names.specs.Names.{opcode_named}
-use Rattle.names.specs.declared.Named.{Named}
-use Rattle.names.specs.declared.Named.TheVariants.{Opcode, Unknown}
 use Rattle.lister.specs.Text.{cells_word}
 
 -- an instruction as a line spells it
@@ -19,38 +16,38 @@ pub record Item : Type 0 where
 -- "First line `cells` and g; .. g and operand in decimal without leading zeros .., g without a sign": the words of
 -- such a line
 unfoldable pub header_read : List (List ℕ) → Option ℕ
-header_read [] = none
-header_read (word ∷ []) = none
-header_read (word ∷ number ∷ []) = cond (same word cells_word && is_decimal number) (some (value_of number)) none
-header_read (word ∷ number ∷ other ∷ more) = none
+header_read [] = None
+header_read (word ∷ []) = None
+header_read (word ∷ number ∷ []) = cond (same word cells_word && is_decimal number) (Some (value_of number)) None
+header_read (word ∷ number ∷ other ∷ more) = None
 
 -- "operand in decimal without leading zeros or −0": what follows a `-`, and a word without one
 abbrev pub minus_read : List ℕ → Option ℤ
-minus_read digits = cond (is_decimal digits && not (eqb (value_of digits) 0)) (some (negsuc (value_of digits - 1))) none
+minus_read digits = cond (is_decimal digits && not (eqb (value_of digits) 0)) (Some (negsuc (value_of digits - 1))) None
 
 abbrev pub plain_read : List ℕ → Option ℤ
-plain_read digits = cond (is_decimal digits) (some (pos (value_of digits))) none
+plain_read digits = cond (is_decimal digits) (Some (pos (value_of digits))) None
 
 unfoldable pub operand_read : List ℕ → Option ℤ
-operand_read [] = none
+operand_read [] = None
 operand_read (b ∷ rest) = cond (eqb b 45) (minus_read rest) (plain_read (b ∷ rest))
 
 -- "the name and, where it has one, the operand": a name alone, and one with an operand
-abbrev pub bare_item : Named → Option Item
-bare_item (Opcode opcode) = cond (has_operand (rule_of opcode)) none (some (record { opcode = opcode; operand = pos 0 }))
-bare_item Unknown = none
+abbrev pub bare_item : Option ℕ → Option Item
+bare_item (Some opcode) = cond (has_operand (rule_of opcode)) None (Some (record { opcode = opcode; operand = pos 0 }))
+bare_item None = None
 
-abbrev pub full_item : Named → Option ℤ → Option Item
-full_item (Opcode opcode) (some k) = cond (has_operand (rule_of opcode))
-    (some (record { opcode = opcode; operand = k })) none
-full_item (Opcode opcode) none = none
-full_item Unknown k = none
+abbrev pub full_item : Option ℕ → Option ℤ → Option Item
+full_item (Some opcode) (Some k) = cond (has_operand (rule_of opcode))
+    (Some (record { opcode = opcode; operand = k })) None
+full_item (Some opcode) None = None
+full_item None k = None
 
 unfoldable pub item_read : List (List ℕ) → Option Item
-item_read [] = none
+item_read [] = None
 item_read (name ∷ []) = bare_item (opcode_named name)
 item_read (name ∷ operand ∷ []) = full_item (opcode_named name) (operand_read operand)
-item_read (name ∷ operand ∷ other ∷ more) = none
+item_read (name ∷ operand ∷ other ∷ more) = None
 
 -- "the address in four digits"
 abbrev pub is_address : List ℕ → Bool
@@ -62,8 +59,8 @@ pub data Line : Type 0 where
   wrong : Line
 
 abbrev pub addressed : ℕ → Option Item → Line
-addressed address (some item) = right address item
-addressed address none = wrong
+addressed address (Some item) = right address item
+addressed address None = wrong
 
 unfoldable pub line_read : List (List ℕ) → Line
 line_read [] = wrong
@@ -106,8 +103,8 @@ with_cells cells (bad number place) = refused number place
 
 -- "40 a header of another form"
 abbrev pub headed : Option ℕ → Lines → Text
-headed (some cells) rest = with_cells cells rest
-headed none rest = refused 40 0
+headed (Some cells) rest = with_cells cells rest
+headed None rest = refused 40 0
 
 -- the header's line is the first, and "first line first"
 unfoldable pub text_read : List (List ℕ) → Text

@@ -1,19 +1,18 @@
 -- Importing: "40 .., 41 .., 42 ..; then 3 to 5 as the writer gives them; 43 at 0, last, no room for the .. image".
-use Rattle.std.specs.Prelude.{ℕ, suc, Bool, cond, ◌&&◌, ◌||◌, List, [], ◌∷◌, ◌++◌, ◌≡◌, refl, ltb, ℤ, pos, negsuc, drop, length}
-use Rattle.std.proofs.Math.Option.{Option, none, some}
+use Rattle.std.specs.Prelude.{ℕ, suc, Bool, cond, ◌&&◌, ◌||◌, List, [], ◌∷◌, ◌++◌, Option, Some, None, ◌≡◌, refl, ltb, ℤ, pos, negsuc, drop, length}
+use Rattle.std.specs.declared.result.Result as code
 use Rattle.opcodes.specs.Page.{page, rule_of}
 use Rattle.opcodes.specs.Rules.{allows, is_between}
 use Rattle.instruction.specs.Word.{word_of}
 use Rattle.card.specs.Image.{image_size, last_of, out_of_range}
-use Rattle.card.specs.Result.{Result, gives, refuses}
+use Rattle.card.specs.Result.{Result, gives, refuses, told}
+use Rattle.card.specs.declared.refusals.Refusal.{Refusal}
 use Rattle.writer.specs.Writing.{image_of, words_bytes}
 use Rattle.digits.specs.Reading.{all_digits, is_decimal, value_from}
 use Rattle.opcodes.specs.Ascii.{bytes, same}
 use Rattle.words.specs.Words.{split}
 use Rattle.names.specs.Names.{named_in}
 use Rattle.importer.specs.Forms.{Item, Text, card, header_read, item_read, line_read, lines_read, operand_read, refused, text_read}
-use Rattle.importer.specs.declared.importing.Importing.{Importing}
-use Rattle.importer.specs.declared.importing.Importing.TheVariants.{Imported, Refused}
 
 -- what the lines of a text say
 abbrev pub said : List ℕ → Text
@@ -37,12 +36,13 @@ is_allowed last item = in_bits item.operand && allows (rule_of item.opcode) last
 
 -- the index of the first instruction whose operand is against its rule, counted from `index`
 unfoldable pub first_against : ℤ → ℕ → List Item → Option ℕ
-first_against last index [] = none
-first_against last index (item ∷ items) = cond (is_allowed last item) (first_against last (suc index) items) (some index)
+first_against last index [] = None
+first_against last index (item ∷ items) =
+    cond (is_allowed last item) (first_against last (suc index) items) (Some index)
 
 abbrev pub after_rules : Option ℕ → Result → Result
-after_rules (some index) rest = refuses 5 index
-after_rules none rest = rest
+after_rules (Some index) rest = refuses 5 index
+after_rules None rest = rest
 
 -- the answer on what a text says, which gives the image's size, for a buffer with so much room. No text gives 4: a
 -- name that isn't known is a line of another form
@@ -64,18 +64,13 @@ abbrev pub imported : Result → Text → List ℕ → List ℕ
 imported (gives size) said buffer = image_said said ++ drop size buffer
 imported (refuses number place) said buffer = buffer
 
--- the number, place and size of each case of the importer's enum
-abbrev pub told : Importing → Result
-told (Imported size) = gives size
-told (Refused number place) = refuses number place
-
 -- an answer, and the buffer that it leaves
-pub record Leaves (said : Text) (before : List ℕ) (answer : Importing) (after : List ℕ) : Type 0 where
-  pub answered : told answer ≡ answer_of said (length before)
+pub record Leaves (said : Text) (before : List ℕ) (answer : code.Result ℕ Refusal) (after : List ℕ) : Type 0 where
+  pub answered : told (λ size. size) answer ≡ answer_of said (length before)
   pub left : after ≡ imported (answer_of said (length before)) said before
 
 -- the promise of the call, for every text and buffer
-abbrev pub Imports : List ℕ → List ℕ → Importing → List ℕ → Type 0
+abbrev pub Imports : List ℕ → List ℕ → code.Result ℕ Refusal → List ℕ → Type 0
 Imports text = Leaves (said text)
 
 -- "P2 lists as `cells 1`, `0000 loadc 7`, `0001 exit`", and back: the image has 17 bytes, for which 16 are no room

@@ -4,42 +4,29 @@ ghost use Rattle.words.specs.Words.{split};
 ghost use Rattle.importer.specs.Coding.{coded_cells, coded_header};
 ghost use Rattle.importer.specs.Forms.{header_read};
 
-use digits::Decimal;
-
+// The number of cells, as far as it matters, and the place of the next line.
 #[derive(Clone, Copy)]
-pub enum Header {
-    // The number of cells, as far as it matters, and the place of the next line.
-    Cells { cells: usize, next: usize },
-    // A line of another form.
-    Wrong,
+pub struct Header {
+    pub cells: usize,
+    pub next: usize,
 }
 
 // Reads the line without its line feed.
-fn read_cells(line: &[u8]) -> Decimal
+fn read_cells(line: &[u8]) -> Option<u64>
     ensures { result ≡ coded_cells (header_read (split 32 line.now)) }
 {
-    let end = words::find(line, 0, b' ');
-    if end == line.len() {
-        return Decimal::Wrong;
+    let (word, number) = words::split_once(line, b' ')?;
+    if word != b"cells".as_slice() {
+        return None;
     }
-    if !words::is_same(&line[..end], b"cells") {
-        return Decimal::Wrong;
-    }
-    digits::read_decimal(&line[end + 1..])
+    digits::read_decimal(number)
 }
 
-pub fn read_header(text: &[u8]) -> Header
+pub fn read_header(text: &[u8]) -> Option<Header>
     ensures { result ≡ coded_header (split 10 text.now) }
 {
-    let end = words::find(text, 0, b'\n');
-    if end == text.len() {
-        return Header::Wrong;
-    }
-    match read_cells(&text[..end]) {
-        Decimal::Value(n) => Header::Cells {
-            cells: n as usize,
-            next: end + 1,
-        },
-        Decimal::Wrong => Header::Wrong,
-    }
+    let (line, _) = words::split_once(text, b'\n')?;
+    let cells = read_cells(line)? as usize;
+    let next = line.len() + 1;
+    Some(Header { cells, next })
 }

@@ -1,83 +1,47 @@
 // The call that gives the image of a text.
-ghost use Rattle.std.specs.Prelude.{◌≤◌, length, ◌≡◌};
-ghost use Rattle.words.specs.Words.{split};
-ghost use Rattle.writer.specs.Writing as writing;
-ghost use Rattle.importer.specs.Coding.{WroteCard, coded_header};
+ghost use Rattle.std.specs.Prelude.{◌≤◌, length, ◌≡◌, Err};
+ghost use Rattle.card.specs.Result.{told};
+ghost use Rattle.importer.specs.Coding.{WroteCard};
 ghost use Rattle.importer.specs.Coding as coding;
-ghost use Rattle.importer.specs.Importing.{Imports, told};
-ghost use Rattle.importer.specs.declared.header.Header.TheVariants as header;
+ghost use Rattle.importer.specs.Importing.{Imports};
 
-use crate::header::{Header, read_header};
-use crate::lines::{Lines, read_lines};
-use card::{layout, refusals};
-use writer::Writing;
+use crate::header::read_header;
+use crate::lines::read_lines;
+use card::{Reason, Refusal, layout};
 
 // The most instructions that a card has.
 const MOST: usize = 4096;
 
-// The answer.
-#[derive(Clone, Copy)]
-pub enum Importing {
-    // The image's size in bytes.
-    Imported { size: usize },
-    Refused { number: u32, place: usize },
-}
-
-// The writer's answer as the importer's: the same, but for the number of no room.
-fn renumbered(answer: Writing) -> Importing
-    ensures { told result ≡ coding.renumbered (writing.told answer) }
+// What the importer refuses where the writer refuses this: the same, but for the number of no room.
+fn renumbered(refusal: Refusal) -> Refusal
+    ensures { told (λ size. size) (Err result) ≡ coding.renumbered (told (λ size. size) (Err refusal)) }
 {
-    match answer {
-        Writing::Written { size } => Importing::Imported { size },
-        Writing::Refused { number, place } => {
-            if number == refusals::NO_ROOM {
-                Importing::Refused {
-                    number: refusals::TEXT_NO_ROOM,
-                    place: 0,
-                }
-            } else {
-                Importing::Refused { number, place }
-            }
-        }
+    if refusal.reason == Reason::NoRoom {
+        let reason = Reason::TextNoRoom;
+        return Refusal { reason, place: 0 };
     }
+    refusal
 }
 
 // Writes the image of a card of `count` instructions, the first 4,096 of which stand in `words`.
-fn write_card(cells: usize, count: usize, words: &[u32], out: &mut [u8]) -> Importing
+fn write_card(cells: usize, count: usize, words: &[u32], out: &mut [u8]) -> Result<usize, Refusal>
     requires { 4096 ≤ length words.now }
     ensures { WroteCard cells count words.now out.old result out.new }
 {
     if MOST < count {
-        return Importing::Refused {
-            number: refusals::SIZES,
-            place: layout::CELLS,
-        };
+        let (reason, place) = (Reason::Sizes, layout::CELLS);
+        return Err(Refusal { reason, place });
     }
-    let answer = writer::write(cells, &words[..count], out);
-    renumbered(answer)
+    writer::write(cells, &words[..count], out).map_err(renumbered)
 }
 
-// Imports the lines past the header.
-fn import_lines(text: &[u8], cells: usize, next: usize, out: &mut [u8]) -> Importing
-    requires { coded_header (split 10 text.now) ≡ header.Cells cells next }
+// Writes the image of the card whose text is given to the start of `out`, and answers its size in bytes.
+pub fn import(text: &[u8], out: &mut [u8]) -> Result<usize, Refusal>
     ensures { Imports text.now out.old result out.new }
 {
+    let reason = Reason::TextHeader;
+    let header = read_header(text).ok_or(Refusal { reason, place: 0 })?;
     let mut words = [0u32; MOST];
-    match read_lines(text, next, &mut words) {
-        Lines::Count(count) => write_card(cells, count, &words, out),
-        Lines::Bad { number, place } => Importing::Refused { number, place },
-    }
-}
-
-// Writes the image of the card whose text is given to the start of `out`.
-pub fn import(text: &[u8], out: &mut [u8]) -> Importing
-    ensures { Imports text.now out.old result out.new }
-{
-    match read_header(text) {
-        Header::Cells { cells, next } => import_lines(text, cells, next, out),
-        Header::Wrong => Importing::Refused {
-            number: refusals::TEXT_HEADER,
-            place: 0,
-        },
-    }
+    let count = read_lines(text, header.next, &mut words)?;
+    write_card(header.cells, count, &words, out)
 }

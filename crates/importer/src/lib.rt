@@ -7,4 +7,4 @@ mod items;
 mod lines;
 mod operands;
 
-pub use importing::{Importing, import};
+pub use importing::import;

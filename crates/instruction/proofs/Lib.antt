@@ -1,4 +1,3 @@
 pub mod Stores
-pub mod Zeros
 pub mod Checks
 pub mod Sentence

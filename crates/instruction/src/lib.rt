@@ -10,18 +10,12 @@ ghost use Rattle.instruction.specs.Word.{opcode_of, operand_of, signed24};
 
 use opcodes::Rule;
 
-fn wide(b: u8) -> u32
-    ensures { (result ≡ b) × (result < 256) }
-{
-    b as u32
-}
-
 // The two bytes from `at`, big-endian.
 pub fn half_at(bytes: &[u8], at: usize) -> u32
     requires { at + 2 ≤ length bytes.now }
     ensures { (result ≡ half_at bytes.now at) × (result < 65536) }
 {
-    wide(bytes[at]) * 256 + wide(bytes[at + 1])
+    u32::from(u16::from_be_bytes([bytes[at], bytes[at + 1]]))
 }
 
 // The four bytes from `at`, big-endian.
@@ -29,7 +23,7 @@ pub fn word_at(bytes: &[u8], at: usize) -> u32
     requires { at + 4 ≤ length bytes.now }
     ensures { result ≡ word_at bytes.now at }
 {
-    half_at(bytes, at) * 65536 + half_at(bytes, at + 2)
+    u32::from_be_bytes([bytes[at], bytes[at + 1], bytes[at + 2], bytes[at + 3]])
 }
 
 // Writes a number below 2^16 big-endian to the two bytes from `at`.
@@ -37,8 +31,7 @@ pub fn put_half(out: &mut [u8], at: usize, x: u32)
     requires { at + 2 ≤ length out.old }
     ensures { out.new ≡ sets out.old at (half_bytes x) }
 {
-    out[at] = (x / 256 % 256) as u8;
-    out[at + 1] = (x % 256) as u8;
+    out[at..at + 2].copy_from_slice(&x.to_be_bytes()[2..]);
 }
 
 // Writes a word big-endian to the four bytes from `at`.
@@ -46,8 +39,7 @@ pub fn put_word(out: &mut [u8], at: usize, w: u32)
     requires { at + 4 ≤ length out.old }
     ensures { out.new ≡ sets out.old at (word_bytes w) }
 {
-    put_half(out, at, w / 65536);
-    put_half(out, at + 2, w % 65536);
+    out[at..at + 4].copy_from_slice(&w.to_be_bytes());
 }
 
 pub fn opcode(w: u32) -> u32
@@ -81,7 +73,7 @@ pub fn operand(w: u32) -> i32
 fn between(low: i32, high: i32, k: i32) -> bool
     ensures { result ≡ is_between low high k }
 {
-    low <= k && k <= high
+    (low..=high).contains(&k)
 }
 
 // Whether `rule` allows the operand with these bits on a card whose last instruction is number `last`. Most opcodes

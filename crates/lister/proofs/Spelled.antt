@@ -1,14 +1,12 @@
 -- Laws of the pieces of a line as they are written, and that they make the line. Assumes nothing.
-use Prim.Native.Nat.{ℕ, zero, suc, ◌+◌, ◌-◌, ◌/◌, ◌%◌, ◌≤◌, ◌<◌}
+use Prim.Native.Nat.{ℕ, zero, suc, ◌≤◌}
 use mathlib.Core.Bool.{Bool, true, false, cond}
 use mathlib.Core.List.{List, [], ◌∷◌, ◌++◌, append_assoc}
 use mathlib.Core.Logic.{◌≢◌}
 use mathlib.Core.Path.{◌≡◌, refl, ◌∙◌, ap}
 use native.Mathlib.Omega.{arith}
-use borrow.Author.Tests.{lt-ltb}
 use lib.ListN.{length, take}
 use lib.Seq.{sets-eq, take-append_seam}
-use Rattle.io.specs.Digits.{hex_digit_ascii}
 use Rattle.opcodes.specs.Page.{name_of, rule_of}
 use Rattle.instruction.specs.Word.{opcode_of, operand_of}
 use Rattle.text.specs.Decimal.{signed}
@@ -17,47 +15,16 @@ use Rattle.text.proofs.Lines.{both, of}
 use Rattle.opcodes.specs.Rules.{has_operand}
 use Rattle.lister.specs.Filling.{PiecesMakeLine, content_text, line_text, operand_text, piece_text, start_text}
 use Rattle.lister.specs.Text.{address_of, operand_words}
-
--- a decimal digit
-pub digit_is : (n : ℕ) → 48 + n % 10 ≡ hex_digit_ascii (n % 10)
-digit_is n = let small : n % 10 < 10 = omega arith in rw (lt-ltb (n % 10) 10 small)
-
--- four of them are an address
-pub address_is : (index a b c d : ℕ) → a ≡ hex_digit_ascii (index / 10 / 10 / 10 % 10) → b ≡ hex_digit_ascii (index / 10 / 10 % 10) →
-    c ≡ hex_digit_ascii (index / 10 % 10) → d ≡ hex_digit_ascii (index % 10) → a ∷ b ∷ c ∷ d ∷ [] ≡ address_of index
-address_is index a b c d p q r t = rw (p, q, r, t)
-
--- nothing is written where there is no operand
-pub no_operand : (w at : ℕ) (buffer : List ℕ) → has_operand (rule_of (opcode_of w)) ≡ false →
-    Puts (operand_text w) buffer at buffer at
-no_operand w at buffer e = rw e (record { written = refl; reached = omega arith })
+use Rattle.lister.specs.declared.lines.Piece.TheVariants.{Start, Content, End}
 
 -- ---- a piece by its line's number, and by its own
 
 pub header_start : (line : ℕ) → line ≡ 0 → start_text 0 ≡ start_text line
 header_start line e = rw e
 
-pub address_start : (line : ℕ) → line ≢ 0 → address_of (line - 1) ≡ start_text line
-address_start zero ne = absurd (ne refl)
-address_start (suc index) ne = let same : suc index - 1 ≡ index = omega arith in rw same
-
-pub header_content : (line content : ℕ) → line ≡ 0 → content_text 0 content ≡ content_text line content
-header_content line content e = rw e
-
 pub instruction_content : (line w : ℕ) → line ≢ 0 → 32 ∷ name_of (opcode_of w) ++ operand_text w ≡ content_text line w
 instruction_content zero w ne = absurd (ne refl)
 instruction_content (suc index) w ne = refl
-
-pub start_piece : (piece line content : ℕ) → piece ≡ 0 → start_text line ≡ piece_text piece line content
-start_piece piece line content e = rw e
-
-pub content_piece : (piece line content : ℕ) → piece ≡ 1 → content_text line content ≡ piece_text piece line content
-content_piece piece line content e = rw e
-
-pub end_piece : (piece line content : ℕ) → piece ≢ 0 → piece ≢ 1 → 10 ∷ [] ≡ piece_text piece line content
-end_piece zero line content no_start no_content = absurd (no_start refl)
-end_piece (suc zero) line content no_start no_content = absurd (no_content refl)
-end_piece (suc (suc piece)) line content no_start no_content = refl
 
 -- ---- the line
 
@@ -76,12 +43,13 @@ unfolding line
 pieces_make_line zero content = refl
 pieces_make_line (suc index) content =
     let name = name_of (opcode_of content) in
-    ap (λ (l : List ℕ). address_of index ++ 32 ∷ l) (append_assoc name (operand_text content) (10 ∷ []) ∙ line_ends name content)
+    ap (λ (l : List ℕ). address_of index ++ 32 ∷ l) (append_assoc name (operand_text content) (10 ∷ [])
+    ∙ line_ends name content)
 
 -- its pieces are put one after the other
 pub line_put : (line content : ℕ) {before first second after : List ℕ} {i j next : ℕ}
-    → Puts (piece_text 0 line content) before 0 first i → Puts (piece_text 1 line content) first i second j
-    → Puts (piece_text 2 line content) second j after next → Puts (line_text line content) before 0 after next
+    → Puts (piece_text Start line content) before 0 first i → Puts (piece_text Content line content) first i second j
+    → Puts (piece_text End line content) second j after next → Puts (line_text line content) before 0 after next
 line_put line content p q t = of (pieces_make_line line content) (both p (both q t))
 
 -- what was written to the start of a buffer stands there

@@ -22,12 +22,14 @@ from image index zero h =
     rw (drop_of_length-le (words_of (drop 9 image)) all)
 from image index (suc left) h =
     let w = word (drop 9 image) index (omega (arith, h)) in
-    let shown : get_or (words_of (drop 9 image)) index 0 ≡ word_at image (9 + 4 * index) = w.is ∙ word_drop 9 (4 * index) image in
+    let shown : get_or (words_of (drop 9 image)) index 0 ≡ word_at image (9 + 4 * index) = w.is
+    ∙ word_drop 9 (4 * index) image in
     rw (drop-cons (words_of (drop 9 image)) index 0 w.there, shown, from image (suc index) left (omega (arith, h)))
 
 pub lines_are_listing : LinesAreListing
 unfolding lines_from
 lines_are_listing cells image e =
     let a = accepts image cells e in
-    let size : length (drop 9 image) ≡ 4 * (0 + count_of image) = omega (arith, length-drop 9 image, a.long.follows, a.sized.exact) in
+    let size : length (drop 9 image) ≡ 4 * (0 + count_of image) =
+    omega (arith, length-drop 9 image, a.long.follows, a.sized.exact) in
     rw (code_part image cells e) (ap (λ (l : List ℕ). image_line image 0 ++ l) (from image 0 (count_of image) size))

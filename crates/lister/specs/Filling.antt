@@ -7,6 +7,8 @@ use Rattle.instruction.specs.Word.{opcode_of, operand_of}
 use Rattle.text.specs.Decimal.{decimal, signed}
 use Rattle.opcodes.specs.Rules.{has_operand}
 use Rattle.lister.specs.Text.{address_of, cells_word, header_line, instruction_line}
+use Rattle.lister.specs.declared.lines.Piece.{Piece}
+use Rattle.lister.specs.declared.lines.Piece.TheVariants.{Start, Content, End}
 use Rattle.lister.specs.declared.line_writer.Writer.{Writer}
 
 -- line 0 is the header, with the number of cells; line i + 1 is that of instruction i, with its word
@@ -28,16 +30,17 @@ abbrev pub content_text : ℕ → ℕ → List ℕ
 content_text zero cells = 32 ∷ decimal cells
 content_text (suc index) w = 32 ∷ name_of (opcode_of w) ++ operand_text w
 
--- the pieces of a line: 0 is its first word, 1 what it shows, and 2 its line feed
-abbrev pub piece_text : ℕ → ℕ → ℕ → List ℕ
-piece_text zero line content = start_text line
-piece_text (suc zero) line content = content_text line content
-piece_text (suc (suc piece)) line content = 10 ∷ []
+-- the pieces of a line: its first word, what it shows, and its line feed
+abbrev pub piece_text : Piece → ℕ → ℕ → List ℕ
+piece_text Start line content = start_text line
+piece_text Content line content = content_text line content
+piece_text End line content = 10 ∷ []
 
 -- the three make the line. The proof is in proofs/Spelled.antt
 abbrev pub PiecesMakeLine : Type 0
 PiecesMakeLine = (line content : ℕ)
-    → piece_text 0 line content ++ (piece_text 1 line content ++ piece_text 2 line content) ≡ line_text line content
+    → piece_text Start line content ++ (piece_text Content line content ++ piece_text End line content) ≡ line_text
+    line content
 
 -- room for any piece, and for a line's three
 abbrev pub piece_room : ℕ
@@ -47,7 +50,7 @@ abbrev pub line_room : ℕ
 line_room = 3 * piece_room
 
 -- a writer after a piece: the same borrow, at the buffer with the piece at the place reached, and the place after it
-abbrev pub lined : Writer → ℕ → ℕ → ℕ → Writer
+abbrev pub lined : Writer → Piece → ℕ → ℕ → Writer
 lined w piece line content =
     record {
       out = at_last w.out (sets w.out.now w.at (piece_text piece line content));

@@ -1,12 +1,12 @@
 -- The call that lists one line of a card: "Refusals: listing 1 to 5; .. 43 at 0, last, no room for the line".
-use Rattle.std.specs.Prelude.{ℕ, zero, suc, ◌+◌, ◌*◌, ◌≤◌, cond, List, [], ◌++◌, ◌≡◌, ltb, drop, length}
+use Rattle.std.specs.Prelude.{ℕ, zero, suc, ◌+◌, ◌*◌, ◌≤◌, cond, List, [], ◌++◌, Option, Some, None, Ok, ◌≡◌, ltb, drop, length}
+use Rattle.std.specs.declared.result.Result as code
 use Rattle.instruction.specs.Bytes.{word_at}
 use Rattle.card.specs.Image.{cells_of, count_of, header_size, read_of}
-use Rattle.card.specs.Result.{Result, gives, refuses}
+use Rattle.card.specs.Result.{Result, gives, refuses, told}
+use Rattle.card.specs.declared.refusals.Refusal.{Refusal}
 use Rattle.lister.specs.Filling.{line_text}
 use Rattle.lister.specs.Text.{listing_of}
-use Rattle.lister.specs.declared.listing.Listing.{Listing}
-use Rattle.lister.specs.declared.listing.Listing.TheVariants.{Written, Past, Refused}
 
 -- what a line shows: the number of cells, or an instruction's word
 abbrev pub content_of : List ℕ → ℕ → ℕ
@@ -39,22 +39,21 @@ abbrev pub listed : Result → List ℕ → ℕ → List ℕ → List ℕ
 listed (gives size) image line buffer = asked image line ++ drop size buffer
 listed (refuses number place) image line buffer = buffer
 
--- the number, place and length of each case of the enum: past the last line, none
-abbrev pub told : Listing → Result
-told (Written size) = gives size
-told Past = gives 0
-told (Refused number place) = refuses number place
+-- the length of the line that was written: past the last line, none
+abbrev pub line_size : Option ℕ → ℕ
+line_size (Some size) = size
+line_size None = 0
 
 -- an answer, and the buffer that it leaves
-pub record Leaves (expected : Result) (image : List ℕ) (line : ℕ) (before : List ℕ) (answer : Listing)
-    (after : List ℕ) : Type 0 where
-  pub answered : told answer ≡ expected
-  -- so past the last line, and there alone, the answer is Past
-  pub some : (size : ℕ) → answer ≡ Written size → 1 ≤ size
+pub record Leaves (expected : Result) (image : List ℕ) (line : ℕ) (before : List ℕ)
+    (answer : code.Result (Option ℕ) Refusal) (after : List ℕ) : Type 0 where
+  pub answered : told line_size answer ≡ expected
+  -- so past the last line, and there alone, the answer is Ok(None)
+  pub some : (size : ℕ) → answer ≡ Ok (Some size) → 1 ≤ size
   pub left : after ≡ listed expected image line before
 
 -- the promise of the call, for every image, line and buffer
-abbrev pub Lists : List ℕ → ℕ → List ℕ → Listing → List ℕ → Type 0
+abbrev pub Lists : List ℕ → ℕ → List ℕ → code.Result (Option ℕ) Refusal → List ℕ → Type 0
 Lists image line before = Leaves (list_of image line (length before)) image line before
 
 -- so many lines of an image, from a line on

@@ -6,4 +6,4 @@ mod lines;
 mod listing;
 
 pub use lines::ROOM;
-pub use listing::{Listing, list_line};
+pub use listing::list_line;

@@ -5,13 +5,16 @@ ghost use Rattle.text.specs.Lines.{Puts};
 ghost use Rattle.lister.specs.Filling.{content_text, operand_text, piece_room, piece_text, start_text};
 ghost use Rattle.lister.specs.Text.{address_of};
 
-// The pieces of a line: its first word, what it shows, and its line feed. Line 0 is the header, line i + 1 that of
-// instruction i.
-pub const START: usize = 0;
-
-pub const CONTENT: usize = 1;
-
-pub const END: usize = 2;
+// The pieces of a line. Line 0 is the header, line i + 1 that of instruction i.
+#[derive(Clone, Copy, Debug, PartialEq, Eq)]
+pub enum Piece {
+    // Its first word.
+    Start,
+    // What it shows.
+    Content,
+    // Its line feed.
+    End,
+}
 
 // Room for any piece, and for a line's three.
 const PIECE_ROOM: usize = 33;
@@ -24,7 +27,7 @@ const LINE_FEED: u8 = b'\n';
 fn digit(n: usize) -> u8
     ensures { result ≡ hex_digit_ascii (n % 10) }
 {
-    48 + (n % 10) as u8
+    b'0' + (n % 10) as u8
 }
 
 // An address in four digits.
@@ -57,7 +60,7 @@ fn put_cells(out: &mut [u8], at: usize, cells: u32) -> usize
     ensures upper_bound { result ≤ at + piece_room }
 {
     let next = text::put_bytes(out, at, b" ");
-    text::put_decimal(out, next, cells as u64)
+    text::put_decimal(out, next, u64::from(cells))
 }
 
 // A space and the operand, where an instruction has one.
@@ -88,16 +91,14 @@ fn put_content(out: &mut [u8], at: usize, line: usize, content: u32) -> usize
 }
 
 // Puts a piece of a line from `at` on, and answers the place reached.
-pub fn piece_at(out: &mut [u8], at: usize, piece: usize, line: usize, content: u32) -> usize
+pub fn piece_at(out: &mut [u8], at: usize, piece: Piece, line: usize, content: u32) -> usize
     requires { at + piece_room ≤ length out.old }
     ensures puts { Puts (piece_text piece line content) out.old at out.new result }
     ensures upper_bound { result ≤ at + piece_room }
 {
-    if piece == START {
-        return put_start(out, at, line);
+    match piece {
+        Piece::Start => put_start(out, at, line),
+        Piece::Content => put_content(out, at, line, content),
+        Piece::End => text::put_byte(out, at, LINE_FEED),
     }
-    if piece == CONTENT {
-        return put_content(out, at, line, content);
-    }
-    text::put_byte(out, at, LINE_FEED)
 }

@@ -5,17 +5,7 @@ ghost use Rattle.lister.specs.Listing.{Leaves, Lists, content_of, line_of};
 
 use crate::line_writer::put_one;
 use crate::lines::ROOM;
-use card::{Reading, layout, refusals};
-
-// The answer.
-#[derive(Clone, Copy)]
-pub enum Listing {
-    // The line's length, with its line feed.
-    Written { length: usize },
-    // The card's text has no such line.
-    Past,
-    Refused { number: u32, place: usize },
-}
+use card::{Reason, Refusal, layout, refuse_if};
 
 // What a line shows: the number of cells, or an instruction's word.
 fn content_of(image: &[u8], line: usize) -> u32
@@ -30,33 +20,27 @@ fn content_of(image: &[u8], line: usize) -> u32
 }
 
 // Lists a line of an image that is accepted: it is made whole first, so that a refusal leaves `out` as it was.
-fn list_accepted(image: &[u8], line: usize, out: &mut [u8]) -> Listing
+fn list_accepted(image: &[u8], line: usize, out: &mut [u8]) -> Result<Option<usize>, Refusal>
     requires { Headed image.now }
     ensures { Leaves (line_of image.now line (length out.old)) image.now line
         out.old result out.new }
 {
     let n = instruction::half_at(image, layout::COUNT) as usize;
     if n < line {
-        return Listing::Past;
+        return Ok(None);
     }
     let mut text = [0u8; ROOM];
     let length = put_one(&mut text, line, content_of(image, line));
-    if out.len() < length {
-        return Listing::Refused {
-            number: refusals::TEXT_NO_ROOM,
-            place: 0,
-        };
-    }
+    refuse_if(out.len() < length, Reason::TextNoRoom, 0)?;
     text::put_bytes(out, 0, &text[..length]);
-    Listing::Written { length }
+    Ok(Some(length))
 }
 
-// Writes a line of a card's text to the start of `out`: line 0 is the header, line i + 1 that of instruction i.
-pub fn list_line(image: &[u8], line: usize, out: &mut [u8]) -> Listing
+// Writes a line of a card's text to the start of `out`, and answers its length with the line feed: line 0 is the
+// header, line i + 1 that of instruction i, and past the last there is none.
+pub fn list_line(image: &[u8], line: usize, out: &mut [u8]) -> Result<Option<usize>, Refusal>
     ensures { Lists image.now line out.old result out.new }
 {
-    match card::read(image) {
-        Reading::Refused { number, place } => Listing::Refused { number, place },
-        Reading::Accepted { cells: _ } => list_accepted(image, line, out),
-    }
+    card::read(image)?;
+    list_accepted(image, line, out)
 }

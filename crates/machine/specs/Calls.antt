@@ -61,7 +61,7 @@ told Halted = in_state halted
 told Running = in_state running
 told Stuck = in_state stuck
 told (Faulted number place) = faulted_by number place
-told (Refused number place) = refused_by number place
+told (Refused r) = refused_by (result.number r.reason) r.place
 
 -- what a call gives: its answer, the instructions carried out, and the box
 pub record Called : Type 0 where

@@ -1,4 +1,6 @@
 // What a call answers.
+use card::Refusal;
+
 #[derive(Clone, Copy)]
 pub enum Answer {
     Halted,
@@ -7,5 +9,5 @@ pub enum Answer {
     // The fault's number, and the PC of the instruction.
     Faulted { number: usize, place: usize },
     // A call that was refused: it changed nothing.
-    Refused { number: usize, place: usize },
+    Refused(Refusal),
 }

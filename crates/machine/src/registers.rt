@@ -9,7 +9,7 @@ use crate::states;
 
 // The order of the fields is for speed: with those that an instruction changes far apart, the compiler keeps each in
 // a register of its own instead of copying several as one block.
-#[derive(Clone, Copy)]
+#[derive(Clone, Copy, Default)]
 pub struct Registers {
     // The next free shared cell.
     pub free: usize,

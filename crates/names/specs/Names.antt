@@ -1,17 +1,15 @@
 -- The opcode that a word names: the page, read the other way round.
-use Rattle.std.specs.Prelude.{ℕ, cond, List, [], ◌∷◌, ◌≡◌, refl}
+use Rattle.std.specs.Prelude.{ℕ, cond, List, [], ◌∷◌, Option, Some, None, ◌≡◌, refl}
 use Rattle.opcodes.specs.Ascii.{bytes, same}
 use Rattle.opcodes.specs.Page.{Line, page}
 use Rattle.words.specs.Words.{split}
-use Rattle.names.specs.declared.Named.{Named}
-use Rattle.names.specs.declared.Named.TheVariants.{Opcode, Unknown}
 
 -- the number of the line that has the name
-unfoldable pub named_in : List Line → List ℕ → Named
-named_in [] word = Unknown
-named_in (line ∷ rest) word = cond (same line.name word) (Opcode line.number) (named_in rest word)
+unfoldable pub named_in : List Line → List ℕ → Option ℕ
+named_in [] word = None
+named_in (line ∷ rest) word = cond (same line.name word) (Some line.number) (named_in rest word)
 
-abbrev pub opcode_named : List ℕ → Named
+abbrev pub opcode_named : List ℕ → Option ℕ
 opcode_named word = named_in page word
 
 -- the names of lines

@@ -12,13 +12,6 @@ ghost use Rattle.names.specs.Names.{opcode_named};
 
 use opcodes::{COUNT, Rule};
 
-// What a word names.
-#[derive(Clone, Copy)]
-pub enum Named {
-    Opcode(u32),
-    Unknown,
-}
-
 // Writes an opcode's name, which is empty past the last opcode.
 pub fn put_name(out: &mut [u8], at: usize, opcode: usize) -> usize
     requires { at + 10 ≤ length out.old }
@@ -29,8 +22,8 @@ pub fn put_name(out: &mut [u8], at: usize, opcode: usize) -> usize
         return at;
     }
     let entry = opcodes::entry_at(opcode);
-    let name = entry.1;
-    let end = words::find(&name, 0, b' ');
+    let name = &entry.name;
+    let end = words::find(name, 0, b' ');
     text::put_bytes(out, at, &name[..end])
 }
 
@@ -39,24 +32,20 @@ fn is_name(word: &[u8], name: &[u8]) -> bool
     ensures { result ≡ same (up_to 32 name.now) word.now }
 {
     let end = words::find(name, 0, b' ');
-    words::is_same(&name[..end], word)
+    &name[..end] == word
 }
 
-// The opcode that a word names.
-pub fn opcode_named(word: &[u8]) -> Named
+// The opcode that a word names, where it names one.
+pub fn opcode_named(word: &[u8]) -> Option<u32>
     ensures { result ≡ opcode_named word.now }
 {
     let table = opcodes::all();
-    let mut k = 0;
-    while k < COUNT {
-        let entry = table[k];
-        let name = entry.1;
-        if is_name(word, &name) {
-            return Named::Opcode(entry.0);
+    for entry in &table {
+        if is_name(word, &entry.name) {
+            return Some(entry.number);
         }
-        k += 1;
     }
-    Named::Unknown
+    None
 }
 
 // Whether an instruction's line has an operand: its rule allows more than 0.
@@ -68,10 +57,5 @@ pub fn has_operand(opcode: u32) -> bool
         return false;
     }
     let entry = opcodes::entry_at(at);
-    let rule = entry.2;
-    match rule {
-        Rule::FromTo(_, _) => true,
-        Rule::ZeroToNMinus1 => true,
-        Rule::Zero => false,
-    }
+    matches!(entry.rule, Rule::FromTo(_, _) | Rule::ZeroToNMinus1)
 }

@@ -1,4 +1,6 @@
-// A name for each opcode, for the matches that carry it out: their proofs hold each to its instruction.
+// A name for each opcode, for the matches that carry it out: their proofs hold each to its instruction. They are
+// numbers and no enum: a word's first byte may be any of 256, and to make an enum of it would take a match of its own
+// at each fetch, before the engine's match over the same number.
 
 pub const HALT: u32 = 0;
 

@@ -4,13 +4,32 @@
 
 ghost use Rattle.std.specs.Prelude.{◌≤◌};
 ghost use Rattle.outcome.specs.Outcome.{Gives};
+ghost use Rattle.opening.specs.Tests.{Opens};
 ghost use Rattle.machine.specs.Calls.{boxed, set_up};
 ghost use Rattle.machine.specs.Registers.{zeros};
 ghost use Rattle.machine.specs.Size.{full};
 
-use card::{Reading, refusals};
+use card::{Reason, Refusal, refuse_if};
 use machine::{Answer, sizes};
 use outcome::{Outcome, no_registers, refused};
+
+// Tests the card, then the sizes of what is lent, and answers the number of global cells.
+fn check(
+    image: &[u8],
+    store: &[i32],
+    tables: &[usize],
+    values: &[i32],
+    size: usize,
+) -> Result<u32, Refusal>
+    requires { size ≤ 32 }
+    ensures { Opens size image.now (boxed store.now tables.now values.now zeros) result }
+{
+    let cells = card::read(image)?;
+    refuse_if(store.len() != sizes::STORE * size, Reason::Store, 0)?;
+    refuse_if(tables.len() != sizes::TABLES * size, Reason::Tables, 0)?;
+    refuse_if(values.len() != sizes::VALUES * size, Reason::Tables, 0)?;
+    Ok(cells)
+}
 
 fn set_up_box(
     image: &[u8],
@@ -19,24 +38,15 @@ fn set_up_box(
     values: &mut [i32],
     size: usize,
 ) -> Outcome
-    requires le_size { 1 ≤ size }
+    requires some_threads { 1 ≤ size }
     requires size_bound { size ≤ 32 }
     ensures { Gives (set_up size image.now
         (boxed store.old tables.old values.old zeros)) result
         store.new tables.new values.new }
 {
-    match card::read(image) {
-        Reading::Refused { number, place } => refused(number as usize, place, no_registers()),
-        Reading::Accepted { cells } => {
-            if store.len() != sizes::STORE * size {
-                return refused(refusals::STORE, 0, no_registers());
-            }
-            if tables.len() != sizes::TABLES * size {
-                return refused(refusals::TABLES, 0, no_registers());
-            }
-            if values.len() != sizes::VALUES * size {
-                return refused(refusals::TABLES, 0, no_registers());
-            }
+    match check(image, store, tables, values, size) {
+        Err(refusal) => refused(refusal, no_registers()),
+        Ok(cells) => {
             let registers = setup::start(store, tables, values, size, cells as usize);
             Outcome {
                 answer: Answer::Running,

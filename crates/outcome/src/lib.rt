@@ -3,11 +3,12 @@
 #![tactic(auto)]
 
 ghost use Rattle.std.specs.Prelude.{◌≡◌};
-ghost use Rattle.outcome.specs.Outcome.{Ends, refusal};
+ghost use Rattle.outcome.specs.Outcome.{Ends, refused};
 ghost use Rattle.machine.specs.Calls.{answer_of, told};
 ghost use Rattle.machine.specs.Registers.{zeros};
 
-use machine::{Answer, Registers};
+use card::Refusal;
+use machine::{Answer, Registers, states};
 
 #[derive(Clone, Copy)]
 pub struct Outcome {
@@ -17,11 +18,11 @@ pub struct Outcome {
 }
 
 // A call that changes nothing.
-pub fn refused(number: usize, place: usize, r: Registers) -> Outcome
-    ensures { result ≡ refusal number place r }
+pub fn refused(refusal: Refusal, r: Registers) -> Outcome
+    ensures { result ≡ refused refusal r }
 {
     Outcome {
-        answer: Answer::Refused { number, place },
+        answer: Answer::Refused(refusal),
         count: 0,
         registers: r,
     }
@@ -31,39 +32,22 @@ pub fn refused(number: usize, place: usize, r: Registers) -> Outcome
 pub fn no_registers() -> Registers
     ensures { result ≡ zeros }
 {
-    Registers {
-        state: 0,
-        fault: 0,
-        thread: 0,
-        pc: 0,
-        cells: 0,
-        fp: 0,
-        free: 0,
-        threads: 0,
-        mutexes: 0,
-        conditions: 0,
-        semaphores: 0,
-    }
+    Registers::default()
 }
 
 // The state of a machine as a call answers it.
 pub fn answer_of(r: Registers) -> Answer
     ensures { told result ≡ answer_of r }
 {
-    let state = r.state;
-    if state == 1 {
-        return Answer::Running;
-    }
-    if state == 2 {
-        return Answer::Stuck;
-    }
-    if state == 3 {
-        return Answer::Faulted {
+    match r.state {
+        states::RUNNING => Answer::Running,
+        states::STUCK => Answer::Stuck,
+        states::FAULTED => Answer::Faulted {
             number: r.fault,
             place: r.pc,
-        };
+        },
+        _ => Answer::Halted,
     }
-    Answer::Halted
 }
 
 // A call that was not refused.

@@ -1,11 +1,11 @@
 -- Texts written one after the other. Assumes nothing.
-use Prim.Native.Nat.{ℕ, suc, ◌+◌, ◌<◌, ◌≤◌}
+use Prim.Native.Nat.{ℕ, ◌+◌, ◌-◌, ◌≤◌}
 use mathlib.Core.Path.{◌≡◌, sym, ◌∙◌}
-use mathlib.Core.List.{List, ◌++◌}
-use native.Mathlib.Numerals.{add-one}
+use mathlib.Core.List.{List, ◌++◌, append_assoc}
 use native.Mathlib.Omega.{arith}
-use lib.ListN.{drop, drop_of_length-le, get_or, length, length-append, set}
-use lib.Seq.{drop-cons, sets}
+use borrow.Rule.Slice.PartMut.{put_mid}
+use lib.ListN.{length, length-append}
+use lib.Seq.{drop-drop, sets, sets-eq}
 use Rattle.instruction.proofs.Stores.{sets_append}
 use Rattle.text.specs.Lines.{Puts}
 
@@ -23,13 +23,9 @@ pub of : {xs ys before after : List ℕ} {at next : ℕ} → xs ≡ ys → Puts 
     Puts ys before at after next
 of e p = rw e at p
 
--- one byte of a text is stored, and the rest is left
-pub one_more : (text out : List ℕ) (at i : ℕ) → i < length text →
-    sets out (at + i) (drop i text) ≡ sets (set out (at + i) (get_or text i 0)) (at + (i + 1)) (drop (i + 1) text)
-one_more text out at i h =
-    let next : suc (at + i) ≡ at + suc i = omega arith in
-    rw (add-one, drop-cons text i 0 h, ← next)
-
--- nothing is left past the last
-pub none_left : (text out : List ℕ) (at i : ℕ) → length text ≤ i → sets out at (drop i text) ≡ out
-none_left text out at i h = rw (drop_of_length-le text h)
+-- a text that takes the place of as many bytes from `at` on
+pub copied : (text out : List ℕ) (at : ℕ) → at + length text ≤ length out →
+    put_mid at (at + length text - at) out text ≡ sets out at text
+copied text out at h =
+    let size : at + length text - at ≡ length text = omega arith in
+    rw (size, sets-eq text out at h, append_assoc, drop-drop (length text) at out)

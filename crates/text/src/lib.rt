@@ -18,12 +18,9 @@ pub fn put_bytes(out: &mut [u8], at: usize, text: &[u8]) -> usize
     requires { at + length text.now ≤ length out.old }
     ensures { Puts text.now out.old at out.new result }
 {
-    let mut i = 0;
-    while i < text.len() {
-        out[at + i] = text[i];
-        i += 1;
-    }
-    at + i
+    let end = at + text.len();
+    out[at..end].copy_from_slice(text);
+    end
 }
 
 // A number in decimal, of at most 20 digits.
@@ -45,7 +42,7 @@ pub fn put_signed(out: &mut [u8], at: usize, v: i32) -> usize
 {
     let digits = arithmetic::magnitude(v);
     if v < 0 {
-        let next = put_byte(out, at, 45);
+        let next = put_byte(out, at, b'-');
         return put_decimal(out, next, digits);
     }
     put_decimal(out, at, digits)

@@ -6,7 +6,9 @@ use mathlib.Core.Path.{◌≡◌, refl, ◌∙◌, ap}
 use native.Mathlib.Omega.{arith}
 use borrow.Author.Tests.{eqb-true, eq-eqb, not-true}
 use lib.Dec.{eqb}
-use lib.ListN.{length, take, drop}
+use lib.ListN.{drop, length, length-drop, take}
+use native.Mathlib.Numerals.{add-one}
+use Rattle.std.proofs.lemmas.List.{take_all}
 use Rattle.opcodes.specs.Ascii.{same}
 use Rattle.words.specs.Words.{join, lacks, onto, split, up_to}
 use Rattle.words.proofs.Clash.{impossible}
@@ -28,7 +30,9 @@ cut sep [] p e h = absurd (omega (arith, h))
 cut sep (b ∷ rest) p e h = by (eqb b sep) refl e (cut sep rest (length (up_to sep rest)) refl)
   where
     by : (t : Bool) → eqb b sep ≡ t → p ≡ length (cond t [] (b ∷ up_to sep rest)) →
-        (length (up_to sep rest) < length rest → split sep rest ≡ take (length (up_to sep rest)) rest ∷ split sep (drop (suc (length (up_to sep rest))) rest)) →
+        (length (up_to sep rest) < length rest →
+        split sep rest ≡ take (length (up_to sep rest)) rest ∷ split sep
+        (drop (suc (length (up_to sep rest))) rest)) →
         split sep (b ∷ rest) ≡ take p (b ∷ rest) ∷ split sep (drop (suc p) (b ∷ rest))
     by true t q later = rw (t, q)
     by false t q later = rw (t, q, later (omega (arith, h, q)))
@@ -141,7 +145,8 @@ pub split_join : (sep : ℕ) (first : List ℕ) (others : List (List ℕ)) → A
     split sep (join sep (first ∷ others)) ≡ first ∷ others
 unfolding join
 split_join sep first [] h = part_alone sep first h.0
-split_join sep first (next ∷ others) h = part_first sep first (join sep (next ∷ others)) h.0 ∙ ap (λ (ps : List (List ℕ)). first ∷ ps) (split_join sep next others h.1)
+split_join sep first (next ∷ others) h = part_first sep first (join sep (next ∷ others)) h.0
+    ∙ ap (λ (ps : List (List ℕ)). first ∷ ps) (split_join sep next others h.1)
 
 pub lacks_append : (sep : ℕ) (a b : List ℕ) → lacks sep a ≡ true → lacks sep b ≡ true → lacks sep (a ++ b) ≡ true
 unfolding lacks
@@ -155,4 +160,20 @@ pub lacks_join : (sep other : ℕ) (first : List ℕ) (others : List (List ℕ))
     AllLack other (first ∷ others) → lacks other (join sep (first ∷ others)) ≡ true
 unfolding join lacks
 lacks_join sep other first [] ne h = h.0
-lacks_join sep other first (next ∷ others) ne h = lacks_append other first (sep ∷ join sep (next ∷ others)) h.0 (rw ne (lacks_join sep other next others ne h.1))
+lacks_join sep other first (next ∷ others) ne h =
+    lacks_append other first (sep ∷ join sep (next ∷ others)) h.0 (rw ne (lacks_join sep other next others ne h.1))
+
+-- ---- a text by its first separator, which lies at r
+
+module _ (sep : ℕ) (l : List ℕ) (r : ℕ) (at : r ≡ 0 + length (up_to sep (drop 0 l))) where
+  pub cut_at : r < length l → split sep l ≡ take r l ∷ split sep (drop (r + 1) l)
+  cut_at h = rw add-one (cut sep l r (omega (arith, at)) h)
+
+  pub once : r < length l → split sep l ≡ take r l ∷ split sep (take (length l - (r + 1)) (drop (r + 1) l))
+  once h =
+      let all : take (length l - (r + 1)) (drop (r + 1) l) ≡ drop (r + 1) l =
+      take_all _ _ (omega (arith, length-drop (r + 1) l)) in
+      rw all (cut_at h)
+
+  pub never_once : r ≡ length l → split sep l ≡ l ∷ []
+  never_once h = whole sep l (omega (arith, at, h))

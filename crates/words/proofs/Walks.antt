@@ -1,56 +1,70 @@
--- Walks along a text and along two words. Assumes nothing.
-use Prim.Native.Nat.{ℕ, suc, ◌+◌, ◌≤◌, ◌<◌}
-use mathlib.Core.Bool.{Bool, true, false, ◌&&◌}
+-- A walk along a text to its first separator, and along two words. Assumes nothing.
+use Prim.Native.Nat.{ℕ, suc, ◌+◌, ◌-◌, ◌≤◌}
+use mathlib.Core.Bool.{Bool, true, false, cond, ◌&&◌}
 use mathlib.Core.List.{List, [], ◌∷◌}
-use mathlib.Core.Logic.{◌≢◌}
-use mathlib.Core.Path.{◌≡◌, refl, ◌∙◌, ap}
-use native.Mathlib.Numerals.{add-one}
+use mathlib.Core.Path.{◌≡◌, refl, sym, ◌∙◌, ap}
 use native.Mathlib.Omega.{arith}
-use borrow.Author.Tests.{eq-eqb, ne_eqb}
-use lib.Dec.{eqb}
-use lib.ListN.{length, get_or, drop, drop_of_length-le}
-use lib.Seq.{drop-cons}
+use borrow.Author.Tests.{ltb-false}
+use lib.Dec.{eqb, ltb}
+use lib.ListN.{drop, length, length-drop, take}
+use Rattle.std.specs.Prelude.{Option, None, Some}
+use Rattle.std.specs.Cmp.Lexicographic.{pointwise}
+use Rattle.std.specs.List.{position, position_or_len}
+use Rattle.std.proofs.lemmas.List.{take_all}
+use Rattle.std.proofs.lemmas.List.Recursion.{is_position_or_len}
+use Rattle.std.proofs.lemmas.Option.{cond_some}
 use Rattle.opcodes.specs.Ascii.{same}
 use Rattle.words.specs.Words.{up_to}
+use Rattle.words.proofs.Clash.{impossible}
 
-module _ (sep : ℕ) (text : List ℕ) (i : ℕ) where
-  -- the bytes from i on, by the byte there
-  pub at_sep : i < length text → get_or text i 0 ≡ sep → i ≡ i + length (up_to sep (drop i text))
-  unfolding up_to
-  at_sep h e = rw (drop-cons text i 0 h, eq-eqb _ _ e) (omega arith)
-
-  pub past_byte : i < length text → get_or text i 0 ≢ sep →
-      i + length (up_to sep (drop i text)) ≡ (i + 1) + length (up_to sep (drop (i + 1) text))
-  unfolding up_to
-  past_byte h ne = rw (add-one, drop-cons text i 0 h, ne_eqb _ _ ne) (omega arith)
-
-  pub at_end_lem : length text ≤ i → i ≡ i + length (up_to sep (drop i text))
-  unfolding up_to
-  at_end_lem h = rw (drop_of_length-le text h) (omega arith)
-
--- words of two lengths differ
-pub other_length : (a b : List ℕ) → length a ≢ length b → same a b ≡ false
-unfolding same
-other_length [] [] ne = absurd (ne refl)
-other_length [] (c ∷ cs) ne = refl
-other_length (b ∷ bs) [] ne = refl
-other_length (b ∷ bs) (c ∷ cs) ne = rw (other_length bs cs (λ e. ne (ap suc e))) (never (eqb b c))
+-- the place of the first separator is what an iterator's `position` finds
+at_sep : (sep : ℕ) (text : List ℕ) → length (up_to sep text) ≡ position_or_len (λ b. eqb b sep) text
+unfolding up_to
+at_sep sep = is_position_or_len (λ l. length (up_to sep l)) (λ b. eqb b sep) refl
+    (λ b rest. by (eqb b sep) (up_to sep rest) b)
   where
-    never : (t : Bool) → (t && false) ≡ false
-    never true = refl
-    never false = refl
+    by : (t : Bool) (l : List ℕ) (b : ℕ) → length (cond t [] (b ∷ l)) ≡ cond t 0 (1 + length l)
+    by true l b = refl
+    by false l b = omega arith
 
-module _ (a b : List ℕ) (i : ℕ) (j : i < length a) (k : i < length b) where
-  at_byte : same (drop i a) (drop i b) ≡ (eqb (get_or a i 0) (get_or b i 0) && same (drop (i + 1) a) (drop (i + 1) b))
-  unfolding same
-  at_byte = rw (add-one, drop-cons a i 0 j, drop-cons b i 0 k)
+pub up_to_most : (sep : ℕ) (text : List ℕ) → length (up_to sep text) ≤ length text
+unfolding up_to
+up_to_most sep [] = omega arith
+up_to_most sep (b ∷ rest) = by (eqb b sep) (up_to_most sep rest)
+  where
+    by : (t : Bool) → length (up_to sep rest) ≤ length rest →
+        length (cond t [] (b ∷ up_to sep rest)) ≤ suc (length rest)
+    by true h = omega arith
+    by false h = omega (arith, h)
 
-  pub same_on : get_or a i 0 ≡ get_or b i 0 → same (drop i a) (drop i b) ≡ same (drop (i + 1) a) (drop (i + 1) b)
-  same_on e = at_byte ∙ rw (eq-eqb _ _ e)
+-- the first separator from `at` on, by the bytes that are left there
+abbrev pub from_at : ℕ → List ℕ → ℕ → Option ℕ
+from_at sep text at = position (λ b. eqb b sep) (take (length text - at) (drop at text))
 
-  pub same_none : get_or a i 0 ≢ get_or b i 0 → same (drop i a) (drop i b) ≡ false
-  same_none ne = at_byte ∙ rw (ne_eqb _ _ ne)
+-- where `position` found it
+module _ (sep : ℕ) (text : List ℕ) (at : ℕ) (found : Option ℕ) (walked : found ≡ from_at sep text at) where
+  in_rest : let p = length (up_to sep (drop at text)) in found ≡ cond (ltb p (length (drop at text))) (Some p) None
+  in_rest =
+      let all : take (length text - at) (drop at text) ≡ drop at text =
+      take_all _ _ (omega (arith, length-drop at text)) in
+      rw (at_sep sep (drop at text), ← all) walked
 
-pub same_end : (a b : List ℕ) (i : ℕ) → length a ≤ i → length b ≤ i → same (drop i a) (drop i b) ≡ true
+  pub at_some : (i : ℕ) → found ≡ Some i → at + i ≡ at + length (up_to sep (drop at text))
+  at_some i e = let here = cond_some _ _ i (sym in_rest ∙ e) in omega (arith, here.1)
+
+  pub at_none : found ≡ None → at ≤ length text → length text ≡ at + length (up_to sep (drop at text))
+  at_none e h = by (ltb (length (up_to sep (drop at text))) (length (drop at text))) refl (sym in_rest ∙ e)
+    where
+      by : (t : Bool) → ltb (length (up_to sep (drop at text))) (length (drop at text)) ≡ t →
+          cond t (Some (length (up_to sep (drop at text)))) None ≡ None →
+          length text ≡ at + length (up_to sep (drop at text))
+      by true t q = impossible cc
+      by false t q = omega (arith, ltb-false _ _ t, up_to_most sep (drop at text), length-drop at text)
+
+-- what `==` of two slices answers
+pub same_listed : (a b : List ℕ) → pointwise eqb a b ≡ same a b
 unfolding same
-same_end a b i j k = rw (drop_of_length-le a j, drop_of_length-le b k)
+same_listed [] [] = refl
+same_listed [] (c ∷ cs) = refl
+same_listed (b ∷ bs) [] = refl
+same_listed (b ∷ bs) (c ∷ cs) = ap (λ (t : Bool). eqb b c && t) (same_listed bs cs)

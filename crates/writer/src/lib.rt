@@ -23,10 +23,8 @@ fn put_code(out: &mut [u8], list: &[u32])
     requires { 9 + 4 * length list.now ≤ length out.old }
     ensures { out.new ≡ sets out.old 9 (words_bytes list.now) }
 {
-    let mut i = 0;
-    while i < list.len() {
-        instruction::put_word(out, layout::CODE + 4 * i, list[i]);
-        i += 1;
+    for (i, w) in list.iter().enumerate() {
+        instruction::put_word(out, layout::CODE + 4 * i, *w);
     }
 }
 

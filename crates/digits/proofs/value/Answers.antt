@@ -1,17 +1,16 @@
 -- `digits::value` meets its contract. Assumes nothing.
-use mathlib.Core.Path.{refl, sym, ◌∙◌}
-use native.Mathlib.Omega.{arith}
-use Rattle.digits.proofs.Walks.{of_digits, value_end, value_on}
+use mathlib.Core.Path.{refl, ◌∙◌}
+use Rattle.digits.specs.Reading.{value_from}
+use Rattle.digits.proofs.Walks.{one_of, value_on}
 use Rattle.digits.proofs.value.Goals as goal
 
-pub loop-i-init : goal.loop-i-init
-loop-i-init c = (refl, omega arith, c.requires)
+pub loop-b-init : goal.loop-b-init
+unfolding value_from
+loop-b-init c = refl
 
-pub longer-n-requires : goal.longer-n-requires
-longer-n-requires c = record { n_bound = c.loop-i.invariant.1; b_value = (of_digits _ _ c.loop-i-test.true c.loop-i.invariant.2).0 }
+pub longer-n-requires-clause-digit : goal.longer-n-requires-clause-digit
+longer-n-requires-clause-digit c = one_of c.args.word.now c.loop-b.b-index c.loop-b-test.true c.requires
 
-pub loop-i-preserved : goal.loop-i-preserved
-loop-i-preserved c = (c.loop-i.invariant.0 ∙ value_on _ _ _ _ c.loop-i-test.true c.longer-n.ensures.0, c.longer-n.ensures.1, (of_digits _ _ c.loop-i-test.true c.loop-i.invariant.2).1)
-
-pub returns : goal.returns
-returns c = sym (c.loop-i.invariant.0 ∙ value_end _ _ _ c.loop-i-test.false c.loop-i.invariant.1)
+pub loop-b-preserved : goal.loop-b-preserved
+loop-b-preserved c =
+    c.longer-n.ensures ∙ rw c.loop-b.invariant (value_on c.args.word.now c.loop-b.b-index c.loop-b-test.true)

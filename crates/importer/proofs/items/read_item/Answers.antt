@@ -1,32 +1,37 @@
 -- `importer::items::read_item` meets its contract. Assumes nothing.
-use Prim.Native.Nat.{◌<◌}
 use mathlib.Core.Path.{sym, ◌∙◌, ap}
 use native.Mathlib.Omega.{arith}
-use lib.ListN.{length}
 use Rattle.names.proofs.Table.{named_is}
 use Rattle.opcodes.proofs.Rows.{all_lines}
 use Rattle.importer.specs.Coding.{coded_entry}
-use Rattle.importer.proofs.Spelling.{bare_item_lem, full_item_lem, unknown}
+use Rattle.importer.proofs.Spelling.{bare_item_lem, full_item_lem, unknown, unknown_alone}
 use Rattle.importer.proofs.items.read_item.Goals as goal
 
-pub returns-in_default : goal.returns-in_default
-returns-in_default c =
-    let name = sym c.opcode_named.ensures ∙ c.in_default.is in
-    sym (ap coded_entry (unknown c.args.rest.now c.find-end.result c.find-end.ensures.value c.find-end.ensures.upper_bound name))
+pub returns-in_err-opcode_named-in-None : goal.returns-in_err-opcode_named-in-None
+returns-in_err-opcode_named-in-None c =
+    let unnamed = sym c.opcode_named.ensures ∙ c.in_err-opcode_named-in-None.was in
+    c.from_residual.ensures ∙ sym (ap coded_entry (unknown_alone _ c.in-None.ensures.parts unnamed))
 
 pub bare-requires : goal.bare-requires
-bare-requires c = omega (arith, (named_is _ _ (sym c.opcode_named.ensures ∙ c.in-Opcode.is)).0, all_lines)
+bare-requires c =
+    omega (arith, (named_is _ _ (sym c.opcode_named.ensures ∙ c.in_ok-opcode_named-in-None.was)).0, all_lines)
 
-pub returns-then-end-rest : goal.returns-then-end-rest
-returns-then-end-rest c =
-    let name = sym c.opcode_named.ensures ∙ c.in-Opcode.is in
-    c.bare.ensures ∙ ap coded_entry (bare_item_lem c.args.rest.now c.find-end.result c.find-end.ensures.value _ c.if-end-rest.true name)
+pub returns-in_ok-opcode_named-in-None : goal.returns-in_ok-opcode_named-in-None
+returns-in_ok-opcode_named-in-None c =
+    let named = sym c.opcode_named.ensures ∙ c.in_ok-opcode_named-in-None.was in
+    c.bare.ensures ∙ ap coded_entry (bare_item_lem _ c.in-None.ensures.parts _ named)
+
+pub returns-in_err-opcode_named-in-Some : goal.returns-in_err-opcode_named-in-Some
+returns-in_err-opcode_named-in-Some c =
+    let unnamed = sym c.opcode_named-in-Some.ensures ∙ c.in_err-opcode_named-in-Some.was in
+    c.from_residual-in_err-opcode_named-in-Some.ensures
+    ∙ sym (ap coded_entry (unknown _ _ _ c.in-Some.ensures.parts unnamed))
 
 pub full-requires : goal.full-requires
-full-requires c = omega (arith, (named_is _ _ (sym c.opcode_named.ensures ∙ c.in-Opcode.is)).0, all_lines)
+full-requires c =
+    omega (arith, (named_is _ _ (sym c.opcode_named-in-Some.ensures ∙ c.in_ok-opcode_named-in-Some.was)).0, all_lines)
 
-pub returns : goal.returns
-returns c =
-    let name = sym c.opcode_named.ensures ∙ c.in-Opcode.is in
-    let least : c.find-end.result < length c.args.rest.now = omega (arith, c.find-end.ensures.upper_bound, c.if-end-rest.false) in
-    c.full.ensures ∙ ap coded_entry (full_item_lem c.args.rest.now c.find-end.result c.find-end.ensures.value _ least name)
+pub returns-in_ok-opcode_named-in-Some : goal.returns-in_ok-opcode_named-in-Some
+returns-in_ok-opcode_named-in-Some c =
+    let named = sym c.opcode_named-in-Some.ensures ∙ c.in_ok-opcode_named-in-Some.was in
+    c.full.ensures ∙ ap coded_entry (full_item_lem _ _ _ c.in-Some.ensures.parts _ named)
