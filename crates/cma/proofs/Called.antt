@@ -1,16 +1,17 @@
 -- What step and run give: a refusal, or what the engine gave. Assumes nothing.
-use Prim.Native.Nat.{ℕ, ◌-◌, ◌*◌, ◌/◌, ◌≤◌}
-use mathlib.Core.Path.{◌≡◌, sym, ap, ◌∙◌}
+use Prim.Native.Nat.{ℕ, ◌-◌, ◌≤◌}
+use mathlib.Core.Path.{◌≡◌, refl, sym, ap, ◌∙◌}
 use mathlib.Core.List.{List}
 use lib.IntN.{ℤ}
-use lib.ListN.{length, drop, take, length-drop}
+use lib.ListN.{length, drop, take}
 use native.Mathlib.Omega.{arith}
 use Rattle.card.proofs.Header.{accepts, code_part}
 use Rattle.card.proofs.Words.{rest}
-use Rattle.card.specs.Image.{code_of, count_of, read_of}
+use Rattle.card.specs.Image.{code_of, read_of}
 use Rattle.card.specs.Result.{gives}
 use Rattle.cma.specs.Contract.{Ready}
-use Rattle.engine.specs.Contract.{Carded, Lasts}
+use Rattle.engine.specs.Accepted.{Carded}
+use Rattle.engine.specs.Contract.{Lasts}
 use Rattle.engine.specs.declared.progress.Progress.{Progress}
 use Rattle.machine.proofs.Runs.{run_done}
 use Rattle.machine.proofs.Slices.{slice_tables}
@@ -31,14 +32,8 @@ pub its_code : (image : List ℕ) (cells : ℕ) → read_of image ≡ gives cell
     take (length image - 9) (drop 9 image) ≡ code_of image
 its_code image cells e = rest 9 image ∙ sym (code_part image cells e)
 
--- the code part of an accepted card, and its number of instructions
-pub carded : (image code : List ℕ) (cells : ℕ) → read_of image ≡ gives cells → code ≡ code_of image →
-    Carded code (length code / 4)
-carded image code cells e same =
-    let a = accepts image cells e in
-    let bytes : length (drop 9 image) ≡ 4 * count_of image = omega (arith, length-drop 9 image, a.long.follows, a.sized.exact) in
-    let long : length code ≡ 4 * count_of image = ap length (same ∙ code_part image cells e) ∙ bytes in
-    record { image = image; cells = cells; read = e; part = same; long = omega (arith, long) }
+pub carded : (image code : List ℕ) (cells : ℕ) → read_of image ≡ gives cells → code ≡ code_of image → Carded code
+carded image code cells e same = ∣ record { image = image; cells = cells; read = e; part = same } ∣₁
 
 module _ {size : ℕ} {image : List ℕ} {store : List ℤ} {tables : List ℕ} {values : List ℤ} {r : Registers} {m : ℕ} where
   -- what the engine gave

@@ -7,6 +7,7 @@ ghost use Rattle.machine.specs.Calls.{boxed, run_call, step_call};
 ghost use Rattle.machine.specs.Size.{full};
 
 use card::{Reason, Refusal, layout, refuse_if};
+use engine::Card;
 use machine::{Registers, sizes};
 use outcome::{Outcome, ended, refused};
 
@@ -50,9 +51,8 @@ fn proceed(
 {
     // The code part is what follows the header.
     let code = &image[layout::CODE..];
-    let n = code.len() / 4;
-    let k = card::unpack(code, n, words);
-    let p = engine::run(code, words, store, tables, values, size, n, k, r, m);
+    let card = Card::new(code, words);
+    let p = engine::run(&card, store, tables, values, size, r, m);
     ended(p.registers, p.count)
 }
 

@@ -17,6 +17,7 @@ use local::natural;
 use machine::Registers;
 use opcodes::opcode;
 
+#[tactic(auto, unfolding(machine::specs::Instructions::instruction_of))]
 pub fn execute(
     store: &mut [i32],
     tables: &mut [usize],

@@ -10,8 +10,9 @@ use lib.IntN.{ℤ}
 use lib.ListN.{length, length-append}
 use borrow.Author.Tests.{eq-eqb, ne_eqb}
 use Rattle.card.specs.Code.{words_of}
-use Rattle.engine.specs.Contract.{Carded, Carries, Course, Under, state_at}
-use Rattle.engine.proofs.Working.{words_of_lem}
+use Rattle.engine.specs.Accepted.{Carded}
+use Rattle.engine.specs.Contract.{Carries, Course, Under, state_at}
+use Rattle.engine.proofs.Accepted.{words_of_lem}
 use Rattle.machine.specs.Calls.{boxed}
 use Rattle.machine.proofs.Lists.{same_or_not}
 use Rattle.machine.proofs.Laws.{book_for, held_sound, sound_held}
@@ -89,7 +90,7 @@ module _ (size : ℕ) (words : List ℕ) (start : State) (m : ℕ) where
         rest = rw (c.rest, d.rest, left, append_assoc);
       }
 
-module _ (size : ℕ) (code : List ℕ) (n : ℕ) (card : Carded code n) (store : List ℤ) (tables : List ℕ) (values : List ℤ)
+module _ (size : ℕ) (code : List ℕ) (card : Carded code) (store : List ℤ) (tables : List ℕ) (values : List ℤ)
     (r : Registers) (h : Sound size (boxed store tables values r)) (runs : r.state ≡ running) where
   before : Right size (state_at size store tables values r) (book_for size (boxed store tables values r))
   before = (sound_held size (boxed store tables values r) h).right
@@ -103,7 +104,7 @@ module _ (size : ℕ) (code : List ℕ) (n : ℕ) (card : Carded code n) (store 
       let s = state_at size store tables values r in
       held_sound size (boxed store' tables' values' q) (book_of book (carried size (words_of code) s).trace)
       (record {
-        right = rw is (carried_right size (words_of code) (words_of_lem code n card) s book before (eq-eqb _ _ runs)).right;
+        right = rw is (carried_right size (words_of code) (words_of_lem card) s book before (eq-eqb _ _ runs)).right;
         sized = same ∙ (sound_held size (boxed store tables values r) h).sized;
       })
 
@@ -113,7 +114,7 @@ module _ (size : ℕ) (code : List ℕ) (n : ℕ) (card : Carded code n) (store 
       cond (eqb q.state faulted) 0 1 ≡ length (carried size (words_of code) (state_at size store tables values r)).trace
   tells store' tables' values' q is =
       ap (λ (s : State). cond (eqb s.regs.state faulted) 0 1) is
-      ∙ carried_count size (words_of code) (words_of_lem code n card) (state_at size store tables values r) (book_for size (boxed store tables values r)) before (eq-eqb _ _ runs)
+      ∙ carried_count size (words_of code) (words_of_lem card) (state_at size store tables values r) (book_for size (boxed store tables values r)) before (eq-eqb _ _ runs)
 
   pub tells_fault : (store' : List ℤ) (tables' : List ℕ) (values' : List ℤ) (q : Registers) →
       Carries size code store tables values r store' tables' values' q → q.state ≡ faulted →
@@ -126,7 +127,7 @@ module _ (size : ℕ) (code : List ℕ) (n : ℕ) (card : Carded code n) (store 
   tells_done store' tables' values' q is e = rw (ne_eqb _ _ e) at (tells store' tables' values' q is)
 
 -- a run under way in lent slices
-module _ {size : ℕ} {code : List ℕ} {n : ℕ} (card : Carded code n) {m : ℕ} {store₀ : List ℤ} {tables₀ : List ℕ}
+module _ {size : ℕ} {code : List ℕ} (card : Carded code) {m : ℕ} {store₀ : List ℤ} {tables₀ : List ℕ}
     {values₀ : List ℤ} {r₀ : Registers} where
   -- it begins
   pub entered : Sound size (boxed store₀ tables₀ values₀ r₀) →
@@ -162,13 +163,13 @@ module _ {size : ℕ} {code : List ℕ} {n : ℕ} (card : Carded code n) {m : �
         {q : Registers} (same : length tables' ≡ length tables)
         (is : Carries size code store tables values r store' tables' values' q) where
       sound : Sound size (boxed store' tables' values' q)
-      sound = stays_sound size code n card store tables values r u.sound runs store' tables' values' q same is
+      sound = stays_sound size code card store tables values r u.sound runs store' tables' values' q same is
 
       -- one more instruction is carried out, ..
       pub one_done : q.state ≢ faulted →
           Under size code m store₀ tables₀ values₀ r₀ store' tables' values' q (left - 1)
       one_done fine =
-          let one = tells_done size code n card store tables values r u.sound runs store' tables' values' q is fine in
+          let one = tells_done size code card store tables values r u.sound runs store' tables' values' q is fine in
           let next : m - left + 1 ≡ m - (left - 1) = omega (arith, u.within) in
           record {
             within = omega (arith, u.within);
@@ -179,20 +180,12 @@ module _ {size : ℕ} {code : List ℕ} {n : ℕ} (card : Carded code n) {m : �
       -- .. or it is a fault
       pub one_fault : q.state ≡ faulted → Under size code m store₀ tables₀ values₀ r₀ store' tables' values' q left
       one_fault wrong =
-          let none = tells_fault size code n card store tables values r u.sound runs store' tables' values' q is wrong in
+          let none = tells_fault size code card store tables values r u.sound runs store' tables' values' q is wrong in
           record {
             within = u.within;
             sound = sound;
             course = faulted_at_lem size (words_of code) (state_at size store₀ tables₀ values₀ r₀) m _ _ _ u.course (omega (arith, u.within)) runs is none (λ e. omega (arith, wrong, e));
           }
-
--- a run under way, in lent slices that are as long as they were
-pub record Going (size : ℕ) (code : List ℕ) (m : ℕ) (store₀ : List ℤ) (tables₀ : List ℕ) (values₀ : List ℤ)
-    (r₀ : Registers) (store : List ℤ) (tables : List ℕ) (values : List ℤ) (r : Registers) (left : ℕ) : Type 0 where
-  pub under : Under size code m store₀ tables₀ values₀ r₀ store tables values r left
-  pub store_long : length store ≡ length store₀
-  pub tables_long : length tables ≡ length tables₀
-  pub values_long : length values ≡ length values₀
 
 -- what is left of a run: the instructions, and a look at a machine that runs
 abbrev pub ahead : ℕ → ℕ → ℕ

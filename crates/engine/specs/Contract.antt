@@ -1,12 +1,9 @@
 -- What the engine asks and promises.
-use Rattle.std.specs.Prelude.{ℕ, ◌*◌, ◌-◌, ◌<◌, ◌≤◌, List, ◌≡◌, ℤ, length}
-use Rattle.card.specs.Code.{Unpacked, instruction_at, words_of}
-use Rattle.card.specs.Image.{code_of, read_of}
-use Rattle.card.specs.Result.{gives}
+use Rattle.std.specs.Prelude.{ℕ, ◌-◌, ◌<◌, ◌≤◌, List, ◌≡◌, ℤ, length}
+use Rattle.card.specs.Code.{instruction_at, words_of}
 use Rattle.dispatch.specs.Contract.{Others}
 use Rattle.engine.specs.declared.progress.Progress.{Progress}
-use Rattle.engine.specs.declared.stretches.Reached.{Reached}
-use Rattle.engine.specs.declared.turns.Standing.{Standing}
+use Rattle.engine.specs.declared.reached.Reached.{Reached}
 use Rattle.machine.specs.Book.{Entry}
 use Rattle.machine.specs.Calls.{boxed}
 use Rattle.machine.specs.Context.{in_context}
@@ -18,14 +15,6 @@ use Rattle.machine.specs.Tables.{tables_of}
 use Rattle.machine.specs.declared.context.Context.{Context}
 use Rattle.machine.specs.declared.registers.Registers.{Registers}
 use Rattle.cells.specs.Contract.{at}
-
--- the code part of an accepted card, of n instructions
-pub record Carded (code : List ℕ) (n : ℕ) : Type 0 where
-  pub image : List ℕ
-  pub cells : ℕ
-  pub read : read_of image ≡ gives cells
-  pub part : code ≡ code_of image
-  pub long : length code ≡ 4 * n
 
 -- a box, in slices, as a state
 abbrev pub state_at : ℕ → List ℤ → List ℕ → List ℤ → Registers → State
@@ -59,13 +48,6 @@ context_at pc cells fp = record { pc = pc; cells = cells; fp = fp }
 abbrev pub context_of : Registers → Context
 context_of r = context_at r.pc r.cells r.fp
 
--- the words of some accepted card, unpacked
-pub record Loaded (words : List ℕ) (k : ℕ) : Type 0 where
-  pub code : List ℕ
-  pub n : ℕ
-  pub card : Carded code n
-  pub unpacked : Unpacked code n words k
-
 -- a store, and a thread in a context, that are those of some sound box whose machine runs
 pub record Housed (size : ℕ) (store : List ℤ) (t : ℕ) (c : Context) : Type 0 where
   pub tables : List ℕ
@@ -74,18 +56,17 @@ pub record Housed (size : ℕ) (store : List ℤ) (t : ℕ) (c : Context) : Type
   pub runs : r.state ≡ running
   pub sound : Sound size (boxed store tables values (in_context r t c))
 
--- a run of m has come from one context and store to others, with so many left: of the card that is unpacked, and
--- whatever tables, values and other registers stand beside
-abbrev pub Inside : ℕ → List ℕ → ℕ → ℕ → List ℤ → ℕ → Context → List ℤ → Context → ℕ → Type 0
-Inside size words k m store₀ t c₀ store c left =
-    (code : List ℕ) (n : ℕ) → Carded code n → Unpacked code n words k →
+-- a run of m has come from one context and store to others, with so many left, whatever tables, values and other
+-- registers stand beside
+abbrev pub Inside : ℕ → List ℕ → ℕ → List ℤ → ℕ → Context → List ℤ → Context → ℕ → Type 0
+Inside size code m store₀ t c₀ store c left =
     (tables : List ℕ) (values : List ℤ) (r : Registers) → r.state ≡ running →
     Sound size (boxed store₀ tables values (in_context r t c₀)) →
     Under size code m store₀ tables values (in_context r t c₀) store tables values (in_context r t c) left
 
 -- what a stretch leaves
-abbrev pub Stretched : ℕ → List ℕ → ℕ → ℕ → List ℤ → ℕ → Context → List ℤ → Reached → Type 0
-Stretched size words k m store t c store' p = Inside size words k m store t c store' p.context p.left
+abbrev pub Stretched : ℕ → List ℕ → ℕ → List ℤ → ℕ → Context → List ℤ → Reached Context → Type 0
+Stretched size code m store t c store' p = Inside size code m store t c store' p.at p.left
 
 -- store, tables and registers that are those of some sound box
 pub record Seated (size : ℕ) (store : List ℤ) (tables : List ℕ) (r : Registers) : Type 0 where
@@ -94,18 +75,18 @@ pub record Seated (size : ℕ) (store : List ℤ) (tables : List ℕ) (r : Regis
 
 -- what turns leave, whatever values stand beside: a run of m has come to this; and while it could go on, an
 -- instruction of the others is next
-pub record Turned (size : ℕ) (code : List ℕ) (n m : ℕ) (store : List ℤ) (tables : List ℕ) (r : Registers)
-    (store' : List ℤ) (tables' : List ℕ) (p : Standing) : Type 0 where
+pub record Turned (size : ℕ) (code : List ℕ) (m : ℕ) (store : List ℤ) (tables : List ℕ) (r : Registers)
+    (store' : List ℤ) (tables' : List ℕ) (p : Reached Registers) : Type 0 where
   pub under : (values : List ℤ) → Sound size (boxed store tables values r) →
-      Under size code m store tables values r store' tables' values p.registers p.left
-  pub ends : 1 ≤ p.left → p.registers.state ≡ running → p.registers.pc < n →
-      Others (instruction_at code p.registers.pc).opcode
+      Under size code m store tables values r store' tables' values p.at p.left
+  pub ends : 1 ≤ p.left → p.at.state ≡ running → p.at.pc < length (words_of code) →
+      Others (instruction_at code p.at.pc).opcode
 
 -- turns and the instruction after them: a run of m has come to this; and where it can go on, fewer are left
 pub record Onward (size : ℕ) (code : List ℕ) (m : ℕ) (store : List ℤ) (tables : List ℕ) (values : List ℤ)
-    (r : Registers) (store' : List ℤ) (tables' : List ℕ) (values' : List ℤ) (p : Standing) : Type 0 where
-  pub under : Under size code m store tables values r store' tables' values' p.registers p.left
-  pub went : p.registers.state ≡ running → p.left < m
+    (r : Registers) (store' : List ℤ) (tables' : List ℕ) (values' : List ℤ) (p : Reached Registers) : Type 0 where
+  pub under : Under size code m store tables values r store' tables' values' p.at p.left
+  pub went : p.at.state ≡ running → p.left < m
 
 -- a run does what the definitions say, and counts what was carried out
 pub record Lasts (size : ℕ) (code : List ℕ) (store : List ℤ) (tables : List ℕ) (values : List ℤ) (r : Registers)

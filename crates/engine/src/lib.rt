@@ -2,10 +2,13 @@
 // first.
 #![tactic(auto)]
 
+mod cards;
 mod progress;
+mod reached;
 mod runs;
 mod stretches;
 mod turns;
 
+pub use cards::Card;
 pub use progress::Progress;
 pub use runs::run;

@@ -1,65 +1,61 @@
 // A run of many instructions: turns, and between them the instructions that are taken elsewhere.
-ghost use Rattle.std.specs.Prelude.{◌≤◌, ◌<◌, ◌≡◌};
-ghost use Rattle.card.specs.Code.{Unpacked, instruction_at};
+ghost use Rattle.std.specs.Prelude.{◌≤◌, ◌<◌, ◌≡◌, length};
+ghost use Rattle.card.specs.Code.{instruction_at, words_of};
 ghost use Rattle.dispatch.specs.Contract.{Others};
-ghost use Rattle.engine.specs.Contract.{Carded, Carries, Lasts, Onward};
+ghost use Rattle.engine.specs.Contract.{Carries, Lasts, Onward};
 ghost use Rattle.machine.specs.Calls.{boxed};
 ghost use Rattle.machine.specs.Laws.{Sound};
+ghost use Rattle.machine.specs.Registers.{running};
 
+use crate::cards::Card;
 use crate::progress::Progress;
-use crate::turns::{Standing, turns};
+use crate::reached::Reached;
+use crate::turns::turns;
 use machine::{Registers, faults, states};
 
 // Carries out the instruction at PC, which ended the turns, or stops with a fault.
 fn carry(
-    code: &[u8],
+    card: &Card,
     store: &mut [i32],
     tables: &mut [usize],
     values: &mut [i32],
     size: usize,
-    n: usize,
     r: Registers,
 ) -> Registers
-    requires carded { Carded code.now n }
     requires size_bound { size ≤ 32 }
     requires sound { Sound size (boxed store.old tables.old values.old r) }
-    requires state_value { r.state ≡ 1 }
-    requires others { r.pc < n → Others (instruction_at code.now r.pc).opcode }
-    ensures { Carries size code.now store.old tables.old values.old r
+    requires runs { r.state ≡ running }
+    requires others { r.pc < length (words_of card.now.code.now)
+        → Others (instruction_at card.now.code.now r.pc).opcode }
+    ensures { Carries size card.now.code.now store.old tables.old values.old r
         store.new tables.new values.new result }
 {
-    let pc = r.pc;
-    if n <= pc {
+    let Some(i) = card.at(r.pc) else {
         return r.stop(faults::NO_INSTRUCTION);
-    }
-    let i = card::fetch(code, pc);
+    };
+    let n = card.count();
     dispatch::execute(store, tables, values, size, n, r, i.opcode, i.operand)
 }
 
 // Turns, and the instruction that ended them, where one did.
 fn onward(
-    code: &[u8],
-    words: &[u32],
+    card: &Card,
     store: &mut [i32],
     tables: &mut [usize],
     values: &mut [i32],
     size: usize,
-    n: usize,
-    k: usize,
     r: Registers,
     m: usize,
-) -> Standing
-    requires carded { Carded code.now n }
-    requires unpacked { Unpacked code.now n words.now k }
+) -> Reached<Registers>
     requires size_bound { size ≤ 32 }
     requires sound { Sound size (boxed store.old tables.old values.old r) }
-    requires state_value { r.state ≡ 1 }
-    requires le_m { 1 ≤ m }
-    ensures { Onward size code.now m store.old tables.old values.old r
+    requires runs { r.state ≡ running }
+    requires some_left { 1 ≤ m }
+    ensures { Onward size card.now.code.now m store.old tables.old values.old r
         store.new tables.new values.new result }
 {
-    let p = turns(code, words, store, tables, size, n, k, r, m);
-    let here = p.registers;
+    let p = turns(card, store, tables, size, r, m);
+    let here = p.at;
     let left = p.left;
     if left == 0 {
         return p;
@@ -67,41 +63,34 @@ fn onward(
     if here.state != states::RUNNING {
         return p;
     }
-    let after = carry(code, store, tables, values, size, n, here);
+    let after = carry(card, store, tables, values, size, here);
     if after.state == states::FAULTED {
-        return Standing {
-            registers: after,
-            left,
-        };
+        return Reached { at: after, left };
     }
-    Standing {
-        registers: after,
+    Reached {
+        at: after,
         left: left - 1,
     }
 }
 
 // Runs a machine for at most `m` instructions, until it stops.
 pub fn run(
-    code: &[u8],
-    words: &[u32],
+    card: &Card,
     store: &mut [i32],
     tables: &mut [usize],
     values: &mut [i32],
     size: usize,
-    n: usize,
-    k: usize,
     r: Registers,
     m: usize,
 ) -> Progress
-    requires carded { Carded code.now n }
-    requires unpacked { Unpacked code.now n words.now k }
     requires size_bound { size ≤ 32 }
     requires sound { Sound size (boxed store.old tables.old values.old r) }
-    ensures { Lasts size code.now store.old tables.old values.old r m
+    ensures { Lasts size card.now.code.now store.old tables.old values.old r m
         store.new tables.new values.new result }
 {
     let mut registers = r;
     let mut left = m;
+    // No `for`: turns take many from what is left.
     while 0 < left {
         if registers.state != states::RUNNING {
             return Progress {
@@ -109,10 +98,8 @@ pub fn run(
                 count: m - left,
             };
         }
-        let p = onward(
-            code, words, store, tables, values, size, n, k, registers, left,
-        );
-        registers = p.registers;
+        let p = onward(card, store, tables, values, size, registers, left);
+        registers = p.at;
         left = p.left;
     }
     Progress {

@@ -3,54 +3,50 @@
 // carried out ends it, with nothing changed: what then is to be done is not for this loop. It is called from two
 // places, and so the compiler leaves it a function of its own.
 ghost use Rattle.std.specs.Prelude.{◌≤◌};
-ghost use Rattle.engine.specs.Contract.{Housed, Loaded, Stretched, context_at};
+ghost use Rattle.engine.specs.Contract.{Housed, Stretched, context_at};
 
+use crate::cards::Card;
+use crate::reached::Reached;
 use machine::Context;
 
-#[derive(Clone, Copy)]
-pub struct Reached {
-    pub context: Context,
-    // What is left of the budget.
-    pub left: usize,
-}
-
-// Runs thread `t` for at most `m` of the card's `n` instructions, which are unpacked in `words`; with n of 0, for none.
-// The context comes as three numbers: a struct would go by way of memory.
+// Runs thread `t` for at most `m` of a card's instructions; for none where the card isn't unpacked. The context comes
+// as three numbers: a struct would go by way of memory.
 pub fn stretch(
-    words: &[u32],
+    card: &Card,
     store: &mut [i32],
     size: usize,
     t: usize,
-    n: usize,
     pc: usize,
     cells: usize,
     fp: usize,
     m: usize,
-) -> Reached
-    requires loaded { Loaded words.now n }
+) -> Reached<Context>
     requires size_bound { size ≤ 32 }
     requires housed { Housed size store.old t (context_at pc cells fp) }
-    ensures { Stretched size words.now n m store.old t (context_at pc cells fp)
+    ensures { Stretched size card.now.code.now m store.old t (context_at pc cells fp)
         store.new result }
 {
+    let words = card.words;
     let mut context = Context { pc, cells, fp };
-    let mut left = m;
-    while 0 < left {
+    for done in 0..m {
+        let left = m - done;
         let pc = context.pc;
-        if n <= pc {
-            return Reached { context, left };
+        if words.len() <= pc {
+            return Reached { at: context, left };
         }
         let past = Context {
             pc: pc + 1,
             cells: context.cells,
             fp: context.fp,
         };
-        let tried = local::execute(store, size, t, n, past, words[pc]);
+        let tried = local::execute(store, size, t, words.len(), past, words[pc]);
         if !tried.ok {
-            return Reached { context, left };
+            return Reached { at: context, left };
         }
         context = tried.context;
-        left -= 1;
     }
-    Reached { context, left }
+    Reached {
+        at: context,
+        left: 0,
+    }
 }

@@ -1,14 +1,11 @@
 -- What the engine's loop may rely on, by what each instruction promises. Assumes nothing.
 use Prim.Native.Nat.{ℕ}
-use mathlib.Core.Path.{◌≡◌, refl}
+use mathlib.Core.Path.{◌≡◌}
 use mathlib.Core.List.{List}
-use native.Mathlib.Omega.{arith}
 use lib.IntN.{ℤ}
 use Rattle.cells.specs.Attempts.{TriesIn}
-use Rattle.control.specs.Contract.{GoesBack}
 use Rattle.instruction.specs.Word.{opcode_of, operand_of}
-use Rattle.machine.specs.Context.{stopped_by}
-use Rattle.machine.specs.Instructions.{Instruction, instruction_of, return}
+use Rattle.machine.specs.Instructions.{Instruction, instruction_of}
 use Rattle.machine.specs.declared.context.Attempt.{Attempt}
 use Rattle.machine.specs.declared.context.Context.{Context}
 use Rattle.local.specs.Contract.{Ventures}
@@ -18,14 +15,3 @@ module _ {size n w op : ℕ} (is : op ≡ opcode_of w) {store : List ℤ} {t : �
   pub tried : {i : Instruction} {store' : List ℤ} {a : Attempt} → instruction_of op (operand_of w) ≡ i →
       TriesIn size n i store t c store' a → Ventures size n w store t c store' a
   tried {a} e h = record { is = λ ok tables values r. rw (← is, e, h.is tables values r, ok); kept = h.kept }
-
-  -- the way back from a call
-  pub went_back : {a : Attempt} → instruction_of op (operand_of w) ≡ return → GoesBack size n store t c a →
-      Ventures size n w store t c store a
-  went_back e h =
-      record { is = λ ok tables values r. rw (← is, e, (h.tries (h.other ok)).is tables values r, ok); kept = λ _. refl }
-
--- another instruction
-pub another : {size n w : ℕ} {store : List ℤ} {t : ℕ} {c : Context} {k : ℕ} →
-    Ventures size n w store t c store (stopped_by c k)
-another = record { is = λ ok. absurd (let z : ◌≡◌ {A = ℕ} 0 1 = cc in omega arith); kept = λ _. refl }

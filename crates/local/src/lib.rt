@@ -23,6 +23,8 @@ pub fn natural(k: i32) -> usize
 }
 
 // Tries the instruction `w` of a card of `n`, with PC past it.
+// What each arm's function tries is what the word's opcode says: `tried` shows it for all.
+#[tactic(auto, using(crate::proofs::Ventured::tried), unfolding(machine::specs::Instructions::instruction_of))]
 pub fn execute(store: &mut [i32], size: usize, t: usize, n: usize, c: Context, w: u32) -> Attempt
     requires fit { Fit size t c (length store.old) }
     requires permitted { Permitted n (opcode_of w) (operand_of w) }

@@ -1,114 +1,45 @@
--- `local::execute` meets its contract. Each arm is the instruction of its opcode. Assumes nothing.
+-- `local::execute` meets its contract: each arm is the instruction of its opcode. Assumes nothing.
+use Prim.Native.Nat.{ℕ}
+use mathlib.Core.Path.{◌≡◌}
 use native.Mathlib.Omega.{arith}
 use Rattle.cells.proofs.Tests.{read_back}
+use Rattle.instruction.specs.Word.{opcode_of}
 use Rattle.machine.specs.Instructions.{instruction_of}
 use Rattle.local.proofs.Operands.{target_below, target_natural}
-use Rattle.local.proofs.Ventured.{another, tried, went_back}
+use Rattle.local.proofs.Ventured.{tried}
 use Rattle.local.proofs.execute.Goals as goal
 
 pub natural-requires : goal.natural-requires
 natural-requires c =
-    rw (read_back c.operand-in-20.type_inv c.operand-in-20.ensures) (target_natural _ _ _ c.requires.permitted (omega (arith, c.opcode.ensures, c.in-20.is)) (omega (arith, c.opcode.ensures, c.in-20.is)))
+    let jump : ◌≡◌ {A = ℕ} 20 (opcode_of c.args.w) = omega (arith, c.opcode.ensures, c.in-20.is) in
+    rw (read_back c.operand-in-20.type_inv c.operand-in-20.ensures)
+    (target_natural _ _ _ c.requires.permitted (omega (arith, jump)) (omega (arith, jump)))
 
 pub natural-requires-in-21 : goal.natural-requires-in-21
 natural-requires-in-21 c =
-    rw (read_back c.operand-in-21.type_inv c.operand-in-21.ensures) (target_natural _ _ _ c.requires.permitted (omega (arith, c.opcode.ensures, c.in-21.is)) (omega (arith, c.opcode.ensures, c.in-21.is)))
+    let jumpz : ◌≡◌ {A = ℕ} 21 (opcode_of c.args.w) = omega (arith, c.opcode.ensures, c.in-21.is) in
+    rw (read_back c.operand-in-21.type_inv c.operand-in-21.ensures)
+    (target_natural _ _ _ c.requires.permitted (omega (arith, jumpz)) (omega (arith, jumpz)))
 
-pub jumpz-requires : goal.jumpz-requires
-jumpz-requires c =
-    record { fit = c.requires.fit; a_lt_n = rw (c.natural-in-21.ensures, read_back c.operand-in-21.type_inv c.operand-in-21.ensures) (target_below _ _ _ c.requires.permitted (omega (arith, c.opcode.ensures, c.in-21.is)) (omega (arith, c.opcode.ensures, c.in-21.is))) }
+pub jumpz-requires-clause-a_lt_n : goal.jumpz-requires-clause-a_lt_n
+jumpz-requires-clause-a_lt_n c =
+    let jumpz : ◌≡◌ {A = ℕ} 21 (opcode_of c.args.w) = omega (arith, c.opcode.ensures, c.in-21.is) in
+    rw (c.natural-in-21.ensures, read_back c.operand-in-21.type_inv c.operand-in-21.ensures)
+    (target_below _ _ _ c.requires.permitted (omega (arith, jumpz)) (omega (arith, jumpz)))
 
 pub returns-in-1 : goal.returns-in-1
 unfolding instruction_of
-returns-in-1 c = tried c.opcode.ensures (rw c.in-1.is) ((rw (read_back c.operand.type_inv c.operand.ensures) at c.loadc.ensures) _)
-
-pub returns-in-2 : goal.returns-in-2
-unfolding instruction_of
-returns-in-2 c = tried c.opcode.ensures (rw c.in-2.is) (c.load.ensures _)
-
-pub returns-in-3 : goal.returns-in-3
-unfolding instruction_of
-returns-in-3 c = tried c.opcode.ensures (rw c.in-3.is) (c.store_cell.ensures _)
+returns-in-1 c =
+    tried c.opcode.ensures (rw c.in-1.is) ((rw (read_back c.operand.type_inv c.operand.ensures) at c.loadc.ensures) _)
 
 pub returns-in-4 : goal.returns-in-4
 unfolding instruction_of
-returns-in-4 c = tried c.opcode.ensures (rw c.in-4.is) ((rw (read_back c.operand-in-4.type_inv c.operand-in-4.ensures) at c.loadr.ensures) _)
+returns-in-4 c =
+    let read = read_back c.operand-in-4.type_inv c.operand-in-4.ensures in
+    tried c.opcode.ensures (rw c.in-4.is) ((rw read at c.loadr.ensures) _)
 
 pub returns-in-5 : goal.returns-in-5
 unfolding instruction_of
-returns-in-5 c = tried c.opcode.ensures (rw c.in-5.is) ((rw (read_back c.operand-in-5.type_inv c.operand-in-5.ensures) at c.storer.ensures) _)
-
-pub returns-in-7 : goal.returns-in-7
-unfolding instruction_of
-returns-in-7 c = tried c.opcode.ensures (rw c.in-7.is) (c.pop.ensures _ _ _ _)
-
-pub returns-in-8 : goal.returns-in-8
-unfolding instruction_of
-returns-in-8 c = tried c.opcode.ensures (rw c.in-8.is) (c.dup.ensures _)
-
-pub returns-in-9 : goal.returns-in-9
-unfolding instruction_of
-returns-in-9 c = tried c.opcode.ensures (rw c.in-9.is) (c.binary.ensures _)
-
-pub returns-in-10 : goal.returns-in-10
-unfolding instruction_of
-returns-in-10 c = tried c.opcode.ensures (rw c.in-10.is) (c.binary-in-10.ensures _)
-
-pub returns-in-11 : goal.returns-in-11
-unfolding instruction_of
-returns-in-11 c = tried c.opcode.ensures (rw c.in-11.is) (c.binary-in-11.ensures _)
-
-pub returns-in-12 : goal.returns-in-12
-unfolding instruction_of
-returns-in-12 c = tried c.opcode.ensures (rw c.in-12.is) (c.binary-in-12.ensures _)
-
-pub returns-in-13 : goal.returns-in-13
-unfolding instruction_of
-returns-in-13 c = tried c.opcode.ensures (rw c.in-13.is) (c.binary-in-13.ensures _)
-
-pub returns-in-14 : goal.returns-in-14
-unfolding instruction_of
-returns-in-14 c = tried c.opcode.ensures (rw c.in-14.is) (c.neg.ensures _)
-
-pub returns-in-15 : goal.returns-in-15
-unfolding instruction_of
-returns-in-15 c = tried c.opcode.ensures (rw c.in-15.is) (c.compare.ensures _)
-
-pub returns-in-16 : goal.returns-in-16
-unfolding instruction_of
-returns-in-16 c = tried c.opcode.ensures (rw c.in-16.is) (c.compare-in-16.ensures _)
-
-pub returns-in-17 : goal.returns-in-17
-unfolding instruction_of
-returns-in-17 c = tried c.opcode.ensures (rw c.in-17.is) (c.compare-in-17.ensures _)
-
-pub returns-in-18 : goal.returns-in-18
-unfolding instruction_of
-returns-in-18 c = tried c.opcode.ensures (rw c.in-18.is) (c.compare-in-18.ensures _)
-
-pub returns-in-19 : goal.returns-in-19
-unfolding instruction_of
-returns-in-19 c = tried c.opcode.ensures (rw c.in-19.is) (c.not.ensures _)
-
-pub returns-in-20 : goal.returns-in-20
-unfolding instruction_of
-returns-in-20 c = tried c.opcode.ensures (rw c.in-20.is) ((rw (c.natural.ensures, read_back c.operand-in-20.type_inv c.operand-in-20.ensures) at c.jump.ensures) _ _ _ _)
-
-pub returns-in-21 : goal.returns-in-21
-unfolding instruction_of
-returns-in-21 c = tried c.opcode.ensures (rw c.in-21.is) ((rw (c.natural-in-21.ensures, read_back c.operand-in-21.type_inv c.operand-in-21.ensures) at c.jumpz.ensures) _)
-
-pub returns-in-22 : goal.returns-in-22
-unfolding instruction_of
-returns-in-22 c = tried c.opcode.ensures (rw c.in-22.is) (c.mark.ensures _)
-
-pub returns-in-23 : goal.returns-in-23
-unfolding instruction_of
-returns-in-23 c = tried c.opcode.ensures (rw c.in-23.is) c.call.ensures
-
-pub returns-in-24 : goal.returns-in-24
-unfolding instruction_of
-returns-in-24 c = went_back c.opcode.ensures (rw c.in-24.is) c.back.ensures
-
-pub returns-in_default : goal.returns-in_default
-returns-in_default c = rw c.stopped.ensures another
+returns-in-5 c =
+    let read = read_back c.operand-in-5.type_inv c.operand-in-5.ensures in
+    tried c.opcode.ensures (rw c.in-5.is) ((rw read at c.storer.ensures) _)

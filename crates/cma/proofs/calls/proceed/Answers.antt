@@ -1,4 +1,5 @@
 -- `cma::calls::proceed` meets its contract. Assumes nothing.
+use mathlib.Core.Path.{◌∙◌}
 use Rattle.cma.proofs.Called.{carded, header, its_code, ran}
 use Rattle.cma.proofs.calls.proceed.Goals as goal
 
@@ -8,14 +9,10 @@ slice_bounds-code-count c = header _ _ c.requires.ready.read
 pub slice_bounds-code-start : goal.slice_bounds-code-start
 slice_bounds-code-start c = header _ _ c.requires.ready.read
 
-pub unpack-k-requires : goal.unpack-k-requires
-unpack-k-requires c = let read = c.requires.ready.read in (carded _ _ _ read (its_code _ _ read)).long
-
-pub run-p-requires : goal.run-p-requires
-run-p-requires c =
-    let ready = c.requires.ready in
-    let card = carded _ _ _ ready.read (its_code _ _ ready.read) in
-    record { carded = card; unpacked = c.unpack-k.ensures; size_bound = c.requires.size_bound; sound = ready.sound }
+pub new-card-requires : goal.new-card-requires
+new-card-requires c = let read = c.requires.ready.read in carded _ _ _ read (its_code _ _ read)
 
 pub returns : goal.returns
-returns c = let ready = c.requires.ready in ran ready (its_code _ _ ready.read) c.run-p.ensures c.ended.ensures
+returns c =
+    let ready = c.requires.ready in
+    ran ready (c.new-card.ensures ∙ its_code _ _ ready.read) c.run-p.ensures c.ended.ensures

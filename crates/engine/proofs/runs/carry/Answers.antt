@@ -1,25 +1,23 @@
 -- `engine::runs::carry` meets its contract. Assumes nothing.
-use mir.Facts.{to_z-of_z}
-use mir.Syntax.{w32}
-use Rattle.engine.proofs.Working.{at_pc, past_end, permitted, working}
-use borrow.Author.Rules.{sfits_of}
+use Rattle.engine.proofs.Working.{at_pc, past_end, permitted, read_operand, working}
 use Rattle.engine.proofs.runs.carry.Goals as goal
 
-pub returns-then-n-pc : goal.returns-then-n-pc
-returns-then-n-pc c = rw c.stop.ensures (past_end _ _ c.requires.carded _ _ c.if-n-pc.true)
+pub returns-in_default : goal.returns-in_default
+returns-in_default c = rw c.stop.ensures (past_end _ c.args.card.now.carded _ _ c.in_default.ensures)
 
 pub execute-requires : goal.execute-requires
 execute-requires c =
-    let below = c.if-n-pc.false in
-    let fine = permitted _ _ c.requires.carded _ below in
-    let read = to_z-of_z (sfits_of {w = w32} {z = c.fetch-i.result.operand} c.struct_told-1.given.1.0.1) in
+    let below = c.in-Some.ensures.0 in
+    let card = c.args.card.now.carded in
+    let fine = permitted _ card _ below in
     record {
-      working = working _ _ c.requires.carded _ _ _ _ _ c.requires.sound c.requires.state_value c.requires.size_bound below;
-      permitted = rw (read, c.fetch-i.ensures) fine.0;
-      others = rw c.fetch-i.ensures (c.requires.others below);
-      opcode_le_last_opcode = rw c.fetch-i.ensures fine.1;
+      working = working _ card _ _ _ _ _ c.requires.sound c.requires.runs c.requires.size_bound below;
+      permitted = rw (c.count-n.ensures, c.in-Some.ensures.1, read_operand _) fine.0;
+      others = rw c.in-Some.ensures.1 (c.requires.others below);
+      opcode_le_last_opcode = rw c.in-Some.ensures.1 fine.1;
     }
 
 pub returns : goal.returns
 returns c =
-    rw (c.execute.ensures, to_z-of_z (sfits_of {w = w32} {z = c.fetch-i.result.operand} c.struct_told-1.given.1.0.1), c.fetch-i.ensures) (at_pc _ _ c.requires.carded _ _ c.if-n-pc.false)
+    rw (c.execute.ensures, c.count-n.ensures, c.in-Some.ensures.1, read_operand _)
+    (at_pc _ c.args.card.now.carded _ _ c.in-Some.ensures.0)

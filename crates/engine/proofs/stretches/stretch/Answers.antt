@@ -1,33 +1,39 @@
 -- `engine::stretches::stretch` meets its contract. Assumes nothing.
-use mathlib.Core.Path.{refl, ◌∙◌}
+use Prim.Native.Nat.{◌+◌, ◌-◌}
+use mathlib.Core.Path.{◌≡◌}
+use native.Mathlib.Nat.{sub-zero}
 use native.Mathlib.Omega.{arith}
 use borrow.Author.Tests.{not-false, not-true}
 use Rattle.engine.proofs.Inside.{allowed, enter, fits, one_more}
 use Rattle.engine.proofs.stretches.stretch.Goals as goal
 
-pub loop-left-init : goal.loop-left-init
-loop-left-init c = (enter, refl)
-
-pub returns-then-n-pc : goal.returns-then-n-pc
-returns-then-n-pc c = c.loop-left.invariant.0
-
-pub bounds-words-pc : goal.bounds-words-pc
-bounds-words-pc c = omega (arith, c.if-n-pc.false, c.requires.loaded.unpacked.long)
+pub loop-done-init : goal.loop-done-init
+loop-done-init c = rw sub-zero (enter c.args.card.now.carded)
 
 pub execute-tried-requires : goal.execute-tried-requires
-execute-tried-requires c = record { fit = fits c.loop-left.invariant.0 c.requires.loaded c.requires.housed c.if-n-pc.false c.requires.size_bound; permitted = allowed c.loop-left.invariant.0 c.requires.loaded c.requires.housed c.if-n-pc.false }
+execute-tried-requires c =
+    let card = c.args.card.now in
+    let below = c.if-words-pc.false in
+    let all = card.unpacked (omega (arith, below)) in
+    record {
+      fit = fits card.carded c.loop-done.invariant c.requires.housed (rw all at below) c.requires.size_bound;
+      permitted = allowed card.carded c.loop-done.invariant all below;
+    }
 
 pub returns-then-not-tried : goal.returns-then-not-tried
-returns-then-not-tried c = rw (c.execute-tried.ensures.kept (not-true _ c.if-not-tried.true)) c.loop-left.invariant.0
+returns-then-not-tried c = rw (c.execute-tried.ensures.kept (not-true _ c.if-not-tried.true)) c.loop-done.invariant
 
-pub loop-left-smaller : goal.loop-left-smaller
-loop-left-smaller c = omega (arith, c.loop-left-test.true)
-
-pub loop-left-preserved : goal.loop-left-preserved
-loop-left-preserved c = (
-  one_more c.loop-left.invariant.0 c.if-n-pc.false c.execute-tried.ensures (omega (arith, c.loop-left-test.true)) (not-false _ c.if-not-tried.false),
-  c.execute-tried.auto.store ∙ c.loop-left.invariant.1,
-)
+pub loop-done-preserved : goal.loop-done-preserved
+loop-done-preserved c =
+    let card = c.args.card.now in
+    let below = c.if-words-pc.false in
+    let all = card.unpacked (omega (arith, below)) in
+    let next : c.args.m - (c.loop-done.done + 1) ≡ c.args.m - c.loop-done.done - 1 = omega arith in
+    let carried_out = not-false _ c.if-not-tried.false in
+    rw next
+    (one_more card.carded c.loop-done.invariant all below c.execute-tried.ensures (omega arith) carried_out)
 
 pub returns : goal.returns
-returns c = c.loop-left.invariant.0
+returns c =
+    let none : c.args.m - c.loop-done.done ≡ 0 = omega arith in
+    rw none at c.loop-done.invariant

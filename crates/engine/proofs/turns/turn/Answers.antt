@@ -1,8 +1,8 @@
 -- `engine::turns::turn` meets its contract. Assumes nothing.
-use mathlib.Core.Logic.{inl, inr}
-use mathlib.Core.Path.{◌≡◌}
 use Prim.Native.Nat.{ℕ}
-use mathlib.Core.Logic.{◌≢◌}
+use mathlib.Core.Logic.{inl, inr, ◌≢◌}
+use mathlib.Core.Path.{◌≡◌}
+use native.Mathlib.Omega.{arith}
 use Rattle.dispatch.specs.Contract.{Turning}
 use Rattle.machine.specs.Instructions.{instruction_of}
 use Rattle.engine.proofs.turns.turn.Goals as goal
@@ -13,14 +13,15 @@ last op (inl e) a b = absurd (a e)
 last op (inr (inl e)) a b = absurd (b e)
 last op (inr (inr e)) a b = e
 
-pub returns-then-opcode-eq-YIELD : goal.returns-then-opcode-eq-YIELD
+pub returns-in-27 : goal.returns-in-27
 unfolding instruction_of
-returns-then-opcode-eq-YIELD c n values = rw c.if-opcode-eq-YIELD.true (c.yield_turn.ensures _ n values)
+returns-in-27 c n values = rw c.in-27.is (c.yield_turn.ensures _ n values)
 
-pub returns-then-opcode-eq-LOCK : goal.returns-then-opcode-eq-LOCK
+pub returns-in-32 : goal.returns-in-32
 unfolding instruction_of
-returns-then-opcode-eq-LOCK c n values = rw c.if-opcode-eq-LOCK.true (c.lock.ensures n values)
+returns-in-32 c n values = rw c.in-32.is (c.lock.ensures n values)
 
-pub returns : goal.returns
+pub returns-in_default : goal.returns-in_default
 unfolding instruction_of
-returns c n values = rw (last _ c.requires.turning c.if-opcode-eq-YIELD.false c.if-opcode-eq-LOCK.false) (c.unlock.ensures n values)
+returns-in_default c n values =
+    rw (last _ c.requires.turning (λ e. omega (arith, e)) (λ e. omega (arith, e))) (c.unlock.ensures n values)
