@@ -5,7 +5,7 @@ use mathlib.Core.List.{List, [], ◌∷◌}
 use mathlib.Core.Logic.{◌≢◌}
 use native.Mathlib.Omega.{arith}
 use lib.IntN.{ℤ}
-use lib.ListN.{get_or, length, set}
+use lib.ListN.{get_or, set}
 use Rattle.machine.specs.Size.{stack_at}
 use Rattle.machine.specs.State.{delivered, saved_top}
 use Rattle.machine.specs.Tables.{Tables, active, place_of, queue, ready, sent, tables_of, wake_all}
@@ -22,8 +22,6 @@ pub record ToGive (size from : ℕ) (v : ℤ) (store₀ : List ℤ) (tables₀ :
     (store : List ℤ) (tables : List ℕ) : Type 0 where
   pub good : Good size tables
   pub receivers : Receivers size from (tables_of size tables)
-  pub tabled : length tables ≡ length tables₀
-  pub stored : length store ≡ length store₀
   pub waking : wake_all (tables_of size tables₀) from ≡ wake_all (tables_of size tables) from
   pub giving : delivered size (tables_of size tables₀) v (queue (tables_of size tables₀) from) store₀
       ≡ delivered size (tables_of size tables) v (queue (tables_of size tables) from) store

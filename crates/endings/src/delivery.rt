@@ -13,11 +13,8 @@ pub fn deliver(store: &mut [i32], tables: &mut [usize], size: usize, from: usize
     requires receivers { Receivers size from (tables_of size tables.old) }
     ensures { Delivers size from v store.old tables.old store.new tables.new }
 {
-    loop {
-        let Some(t) = tables::dequeue(tables, size, from, 0) else {
-            return;
-        };
-        let cells = tables::saved_cells(tables, size, t);
+    while let Some(t) = tables::dequeue(tables, size, from, 0) {
+        let cells = tables::saved(tables, size, t).cells;
         cells::poke(store, size, t.0, cells - 1, v);
         tables::make_ready(tables, size, t);
     }

@@ -3,35 +3,39 @@ use Prim.Native.Nat.{ℕ, ◌-◌, ◌^◌, ◌≤◌, ◌<◌}
 use mathlib.Core.Bool.{Bool, true, false, cond, not, ◌&&◌}
 use mathlib.Core.List.{List, [], ◌∷◌}
 use mathlib.Core.Logic.{◌≢◌}
-use Rattle.std.specs.Prelude.{None, Some, Err}
+use Rattle.std.specs.Prelude.{None, Some}
 use mathlib.Core.Path.{◌≡◌, refl, ◌∙◌}
 use native.Mathlib.Omega.{arith}
 use borrow.Author.Tests.{eq-eqb, eqb-true, ne_eqb}
 use lib.Dec.{eqb}
 use lib.IntN.{ℤ, pos, negsuc}
-use lib.ListN.{drop, get_or, length}
+use lib.ListN.{drop, get_or, length, take}
+use Rattle.std.specs.Cmp.Lexicographic.{pointwise}
 use Rattle.machine.proofs.Every.{and_true}
 use Rattle.digits.specs.Reading.{all_digits, capped, is_decimal, is_digit, value_of}
 use Rattle.digits.proofs.Undone.{all_of, digit, value_less}
 use Rattle.digits.proofs.Walks.{capped_small}
 use Rattle.words.specs.Words.{lacks}
 use Rattle.words.proofs.Clash.{impossible}
-use Rattle.importer.specs.Coding.{address_read, coded_operand}
-use Rattle.importer.specs.declared.operands.BadOperand.TheVariants.{Form}
+use Rattle.importer.specs.Coding.{address_read}
 use Rattle.importer.specs.Forms.{minus_read, operand_read, plain_read}
 
 -- ---- an operand by its first byte
 
-pub no_operand : (word : List ℕ) → length word < 1 → Err Form ≡ coded_operand (operand_read word)
-unfolding operand_read
-no_operand [] h = refl
-no_operand (b ∷ rest) h = absurd (omega (arith, h))
-
-pub first_minus : (word : List ℕ) → 1 ≤ length word → get_or word 0 0 ≡ 45 →
+pub minus_first : (word : List ℕ) → pointwise eqb (take 1 word) (45 ∷ []) ≡ true →
     minus_read (drop 1 word) ≡ operand_read word
 unfolding operand_read
-first_minus [] h e = absurd (omega (arith, h))
-first_minus (b ∷ rest) h e = rw (eq-eqb b 45 e)
+minus_first [] e = impossible cc
+minus_first (b ∷ rest) e = rw (and_true (eqb b 45) true e).0
+
+pub other_first : (word : List ℕ) → pointwise eqb (take 1 word) (45 ∷ []) ≡ false → plain_read word ≡ operand_read word
+unfolding is_decimal operand_read
+other_first [] e = refl
+other_first (b ∷ rest) e = by (eqb b 45) e
+  where
+    by : (t : Bool) → (t && true) ≡ false → plain_read (b ∷ rest) ≡ cond t (minus_read rest) (plain_read (b ∷ rest))
+    by true q = impossible cc
+    by false q = refl
 
 pub first_other : (word : List ℕ) → 1 ≤ length word → get_or word 0 0 ≢ 45 → plain_read word ≡ operand_read word
 unfolding operand_read

@@ -65,10 +65,12 @@ fn store(words: &mut [u32], index: usize, word: u32)
 // Reads the lines from `start` on, stores the words of their instructions and answers how many there are.
 pub fn read_lines(text: &[u8], start: usize, words: &mut [u32]) -> Result<usize, Refusal>
     requires { start ≤ length text.now }
-    ensures value { told (λ count. count) result ≡ coded_lines 0 (lines_read 0 start (split 10 (drop start text.now))) }
+    ensures value { told (λ count. count) result
+        ≡ coded_lines 0 (lines_read 0 start (split 10 (drop start text.now))) }
     ensures stores { Stores (lines_read 0 start (split 10 (drop start text.now))) words.old
         words.new }
 {
+    // A refusal names the byte at which its line begins: a `for` over lines would add it up beside them just as here.
     let mut at = start;
     let mut index = 0;
     while at < text.len() {

@@ -48,11 +48,8 @@ fn read_minus(word: &[u8]) -> Result<u32, BadOperand>
 pub fn read_operand(word: &[u8]) -> Result<u32, BadOperand>
     ensures { result ≡ coded_operand (operand_read word.now) }
 {
-    if word.len() < 1 {
-        return Err(BadOperand::Form);
+    match word.strip_prefix(b"-") {
+        Some(digits) => read_minus(digits),
+        None => read_plain(word),
     }
-    if word[0] == b'-' {
-        return read_minus(&word[1..]);
-    }
-    read_plain(word)
 }

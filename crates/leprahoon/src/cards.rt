@@ -4,14 +4,14 @@ ghost use Rattle.card.specs.Image.{read_of};
 ghost use Rattle.card.specs.Result.{report_of};
 ghost use Rattle.leprahoon.specs.Lists.{PrintsLine, WroteList};
 
-use lists::{length_of, list_of_reading, list_of_writing};
+use lists::{length_of, list_of_result};
 
 // Judges a card: the number and place of its refusal, or its global cells.
 #[unsafe(no_mangle)]
 pub extern "C" fn leprahoon_read(image: &[u8], report: &mut [usize; 3])
     ensures { report.new ≡ report_of (read_of image.now) }
 {
-    *report = list_of_reading(card::read(image));
+    *report = list_of_result(card::read(image));
 }
 
 // Writes the image of a card from its instructions, each a word.
@@ -24,7 +24,7 @@ pub extern "C" fn leprahoon_write(
 )
     ensures { WroteList cells list.now out.old out.new report.new }
 {
-    *report = list_of_writing(writer::write(cells, list, out));
+    *report = list_of_result(writer::write(cells, list, out));
 }
 
 // Runs a card as the runner does and writes its line; gives the line's length, or 0 where the buffer has under 90

@@ -9,6 +9,7 @@ use borrow.Author.Tests.{le-ltb, lt-ltb}
 use lib.IntN.{ℤ}
 use lib.ListN.{length}
 use lib.Seq.{sets-eq}
+use Rattle.std.specs.Prelude.{Some, None}
 use Rattle.outcome.specs.Outcome.{Gives}
 use Rattle.outcome.specs.declared.Outcome.{Outcome}
 use Rattle.machine.specs.Calls.{Box, Called, boxed, run_call, set_up, told}
@@ -17,7 +18,6 @@ use Rattle.machine.specs.Size.{full}
 use Rattle.machine.specs.declared.registers.Registers.{Registers}
 use Rattle.text.specs.Lines.{Puts}
 use Rattle.line.specs.Line.{Prints, PutsLine, room}
-use Rattle.line.specs.declared.answers.Line.TheVariants.{Written, NoRoom}
 
 -- a refused set-up is the whole of it
 pub stops : (size : ℕ) (image : List ℕ) (box : Box) → is_refused (set_up size image box).answer ≡ true →
@@ -57,7 +57,7 @@ unfolding runner_line
 judged_line input e = ap (λ (part : List ℕ). line_of full (runner_call full part)) e
 
 -- no room: nothing is written
-pub shut : {input before : List ℕ} → length before < room → Prints input before NoRoom before
+pub shut : {input before : List ℕ} → length before < room → Prints input before None before
 shut h =
     record {
       answered = rw (lt-ltb _ _ h);
@@ -68,7 +68,7 @@ shut h =
 -- a line in a buffer with room is what is printed
 pub printed : {input text before after : List ℕ} {n : ℕ} → runner_line full input ≡ text → room ≤ length before →
     Puts text before 0 after n → n ≤ room →
-    Prints input before (Written n) after
+    Prints input before (Some n) after
 printed {input} {text} {before} {after} {n} line h p short =
     let size : n ≡ length text = omega (arith, p.reached) in
     record {

@@ -20,14 +20,6 @@ const INPUT_LIMIT: usize = 16394;
 
 const STEP_LIMIT: usize = 1000000;
 
-#[derive(Clone, Copy)]
-pub enum Line {
-    // The line's length, with its line feed.
-    Written { length: usize },
-    // The buffer has under 90 bytes.
-    NoRoom,
-}
-
 // The line of an answer.
 fn put_answer(
     out: &mut [u8],
@@ -37,9 +29,9 @@ fn put_answer(
     tables: &[usize],
     values: &[i32],
 ) -> usize
-    requires in_bounds { 90 ≤ length out.old }
-    requires in_bounds_2 { 32 ≤ length tables.now }
-    requires in_bounds_3 { 32 ≤ length values.now }
+    requires room { 90 ≤ length out.old }
+    requires all_tables { 32 ≤ length tables.now }
+    requires all_values { 32 ≤ length values.now }
     ensures puts_line { PutsLine answer steps thread tables.now values.now out.old
         out.new result }
     ensures upper_bound { result ≤ 90 }
@@ -49,26 +41,14 @@ fn put_answer(
         Answer::Running => put_state(out, b"running", steps),
         Answer::Stuck => put_state(out, b"stuck", steps),
         Answer::Faulted { number, place } => put_fault(out, number, thread, place, steps),
-        Answer::Refused { number, place } => put_refused(out, number, place),
+        Answer::Refused(refusal) => put_refused(out, refusal.reason.number(), refusal.place),
     }
 }
 
 fn is_refused(answer: Answer) -> bool
     ensures { result ≡ is_refused (told answer) }
 {
-    match answer {
-        Answer::Refused {
-            number: _,
-            place: _,
-        } => true,
-        Answer::Faulted {
-            number: _,
-            place: _,
-        } => false,
-        Answer::Halted => false,
-        Answer::Running => false,
-        Answer::Stuck => false,
-    }
+    matches!(answer, Answer::Refused(_))
 }
 
 // Sets a card up in lent memory and runs it.
@@ -78,12 +58,10 @@ fn run_card(image: &[u8], store: &mut [i32], tables: &mut [usize], values: &mut 
         store.new tables.new values.new }
 {
     let up = cma::set_up(image, store, tables, values);
-    let answer = up.answer;
-    if is_refused(answer) {
+    if is_refused(up.answer) {
         return up;
     }
-    let registers = up.registers;
-    cma::run(image, store, tables, values, registers, STEP_LIMIT)
+    cma::run(image, store, tables, values, up.registers, STEP_LIMIT)
 }
 
 // Runs a card in memory of its own and writes its line.
@@ -96,23 +74,17 @@ fn put_line(image: &[u8], out: &mut [u8]) -> usize
     let mut tables = [0usize; 224];
     let mut values = [0i32; 64];
     let o = run_card(image, &mut store, &mut tables, &mut values);
-    let answer = o.answer;
-    put_answer(out, answer, o.count, o.registers.thread, &tables, &values)
+    put_answer(out, o.answer, o.count, o.registers.thread, &tables, &values)
 }
 
-// The line that the runner prints for what stands on its input, written to the start of `out`.
-pub fn runner_line(input: &[u8], out: &mut [u8]) -> Line
+// The line that the runner prints for what stands on its input, written to the start of `out`: its length with its line
+// feed, or none where the buffer has under 90 bytes.
+pub fn runner_line(input: &[u8], out: &mut [u8]) -> Option<usize>
     ensures { Prints input.now out.old result out.new }
 {
     if out.len() < ROOM {
-        return Line::NoRoom;
+        return None;
     }
-    if INPUT_LIMIT < input.len() {
-        return Line::Written {
-            length: put_line(&input[..INPUT_LIMIT], out),
-        };
-    }
-    Line::Written {
-        length: put_line(input, out),
-    }
+    let judged = &input[..INPUT_LIMIT.min(input.len())];
+    Some(put_line(judged, out))
 }

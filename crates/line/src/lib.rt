@@ -5,5 +5,5 @@
 mod answers;
 mod words;
 
-pub use answers::{Line, ROOM, runner_line};
+pub use answers::{ROOM, runner_line};
 pub use words::put_refused;

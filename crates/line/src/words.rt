@@ -21,8 +21,8 @@ fn put_number(out: &mut [u8], at: usize, n: usize) -> usize
 
 // A word and a number: `stuck STEPS`, `running STEPS`.
 pub fn put_state(out: &mut [u8], word: &[u8], steps: usize) -> usize
-    requires in_bounds { 90 ≤ length out.old }
-    requires word_len_bound { length word.now ≤ 8 }
+    requires room { 90 ≤ length out.old }
+    requires short_word { length word.now ≤ 8 }
     ensures puts { Puts (line word.now (decimal steps ∷ [])) out.old 0 out.new result }
     ensures upper_bound { result ≤ 90 }
 {
@@ -58,9 +58,9 @@ pub fn put_fault(out: &mut [u8], number: usize, thread: usize, place: usize, ste
 
 // Thread 0's result, or `-` where it has not ended.
 fn put_result(out: &mut [u8], at: usize, tables: &[usize], values: &[i32]) -> usize
-    requires at_in_bounds { at + 21 ≤ length out.old }
-    requires in_bounds { 32 ≤ length tables.now }
-    requires in_bounds_2 { 32 ≤ length values.now }
+    requires room { at + 21 ≤ length out.old }
+    requires all_tables { 32 ≤ length tables.now }
+    requires all_values { 32 ≤ length values.now }
     ensures puts { Puts (result_of full (boxed [] tables.now values.now zeros)) out.old at
         out.new result }
     ensures upper_bound { result ≤ at + 21 }
@@ -73,9 +73,9 @@ fn put_result(out: &mut [u8], at: usize, tables: &[usize], values: &[i32]) -> us
 }
 
 pub fn put_halted(out: &mut [u8], steps: usize, tables: &[usize], values: &[i32]) -> usize
-    requires in_bounds { 90 ≤ length out.old }
-    requires in_bounds_2 { 32 ≤ length tables.now }
-    requires in_bounds_3 { 32 ≤ length values.now }
+    requires room { 90 ≤ length out.old }
+    requires all_tables { 32 ≤ length tables.now }
+    requires all_values { 32 ≤ length values.now }
     ensures puts { Puts (line halted_word
         (decimal steps ∷ result_of full (boxed [] tables.now values.now zeros) ∷ []))
         out.old 0 out.new result }

@@ -38,9 +38,8 @@ piece_text End line content = 10 ∷ []
 
 -- the three make the line. The proof is in proofs/Spelled.antt
 abbrev pub PiecesMakeLine : Type 0
-PiecesMakeLine = (line content : ℕ)
-    → piece_text Start line content ++ (piece_text Content line content ++ piece_text End line content) ≡ line_text
-    line content
+PiecesMakeLine = (line content : ℕ) → let text = λ (piece : Piece). piece_text piece line content in
+    text Start ++ (text Content ++ text End) ≡ line_text line content
 
 -- room for any piece, and for a line's three
 abbrev pub piece_room : ℕ

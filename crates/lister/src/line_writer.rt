@@ -16,7 +16,8 @@ pub struct Writer<'a> {
 impl<'a> Writer<'a> {
     // At the start of a buffer.
     pub fn new(out: &'a mut [u8]) -> Writer<'a>
-        ensures { (result.out ≡ out.entry) × (result.at ≡ 0) }
+        ensures lent { result.out ≡ out.entry }
+        ensures start { result.at ≡ 0 }
     {
         Writer { out, at: 0 }
     }
@@ -24,7 +25,8 @@ impl<'a> Writer<'a> {
     // Puts a piece of a line at the place reached.
     pub fn put(&mut self, piece: Piece, line: usize, content: u32)
         requires { self.old.at + piece_room ≤ length self.old.out.now }
-        ensures { (self.new ≡ lined self.old piece line content) × (self.new.at ≤ self.old.at + piece_room) }
+        ensures puts { self.new ≡ lined self.old piece line content }
+        ensures upper_bound { self.new.at ≤ self.old.at + piece_room }
     {
         self.at = piece_at(&mut *self.out, self.at, piece, line, content);
     }
@@ -40,7 +42,8 @@ impl<'a> Writer<'a> {
 // Puts the pieces of a line at the start of a buffer, one after the other, and answers the place reached.
 pub fn put_one(out: &mut [u8], line: usize, content: u32) -> usize
     requires { line_room ≤ length out.old }
-    ensures { Puts (line_text line content) out.old 0 out.new result × (result ≤ line_room) }
+    ensures puts { Puts (line_text line content) out.old 0 out.new result }
+    ensures upper_bound { result ≤ line_room }
 {
     let mut w = Writer::new(out);
     w.put(Piece::Start, line, content);

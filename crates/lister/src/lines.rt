@@ -35,10 +35,13 @@ fn put_address(out: &mut [u8], at: usize, index: usize) -> usize
     requires { at + 4 ≤ length out.old }
     ensures { Puts (address_of index) out.old at out.new result }
 {
-    let mut next = text::put_byte(out, at, digit(index / 10 / 10 / 10));
-    next = text::put_byte(out, next, digit(index / 10 / 10));
-    next = text::put_byte(out, next, digit(index / 10));
-    text::put_byte(out, next, digit(index))
+    let digits = [
+        digit(index / 1000),
+        digit(index / 100),
+        digit(index / 10),
+        digit(index),
+    ];
+    text::put_bytes(out, at, &digits)
 }
 
 // The word `cells`, or an instruction's address.

@@ -5,6 +5,4 @@ mod registers;
 mod results;
 
 pub use registers::{list_of, report_of, take_registers};
-pub use results::{
-    length_of, list_of_importing, list_of_listing, list_of_reading, list_of_writing,
-};
+pub use results::{Value, length_of, list_of_result};

@@ -3,7 +3,10 @@ ghost use Rattle.std.specs.Prelude.{◌≡◌};
 ghost use Rattle.machine.specs.Calls.{told};
 ghost use Rattle.lists.specs.Lists.{answer_list, list_of, registers_of};
 
-use machine::{Answer, Registers};
+use machine::{Answer, Registers, states};
+
+// Beside the machine's four states: a call that was refused.
+const REFUSED: usize = 4;
 
 pub fn take_registers(list: &[usize; 11]) -> Registers
     ensures { result ≡ registers_of list.now }
@@ -46,10 +49,10 @@ pub fn report_of(answer: Answer, count: usize) -> [usize; 4]
     ensures { result ≡ answer_list (told answer) count }
 {
     match answer {
-        Answer::Halted => [0, 0, 0, count],
-        Answer::Running => [1, 0, 0, count],
-        Answer::Stuck => [2, 0, 0, count],
-        Answer::Faulted { number, place } => [3, number, place, count],
-        Answer::Refused { number, place } => [4, number, place, count],
+        Answer::Halted => [states::HALTED, 0, 0, count],
+        Answer::Running => [states::RUNNING, 0, 0, count],
+        Answer::Stuck => [states::STUCK, 0, 0, count],
+        Answer::Faulted { number, place } => [states::FAULTED, number, place, count],
+        Answer::Refused(refusal) => [REFUSED, refusal.reason.number(), refusal.place, count],
     }
 }

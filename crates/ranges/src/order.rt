@@ -10,17 +10,11 @@ pub fn line_fits(tables: &[usize], size: usize) -> bool
     ensures { result ≡ line_fits size (tables_of size tables.now).line }
 {
     let mut seen = [false; 32];
-    let mut i = tables::line_start(size);
-    while i < tables.len() {
-        let t = tables[i];
-        if size <= t {
-            return false;
-        }
-        if seen[t] {
+    for &t in tables::line_of(tables, size) {
+        if size <= t || seen[t] {
             return false;
         }
         seen[t] = true;
-        i += 1;
     }
     true
 }

@@ -1,43 +1,24 @@
 -- Laws of the front of the line that a search passes over: what it may start behind, and what keeps that so. Assumes nothing.
-use Prim.Native.Nat.{ℕ, zero, suc, ◌+◌, ◌*◌, ◌<◌, ◌≤◌}
+use Prim.Native.Nat.{ℕ, zero, suc, ◌<◌, ◌≤◌}
 use mathlib.Core.Path.{◌≡◌, refl, sym, ap, ◌∙◌}
 use mathlib.Core.Bool.{true, false}
 use mathlib.Core.List.{List, [], ◌∷◌}
 use mathlib.Core.Logic.{◌≢◌}
-use native.Mathlib.Numerals.{add-one}
 use native.Mathlib.Omega.{arith}
 use lib.Dec.{ltb}
-use lib.ListN.{get_or, drop}
-use lib.Seq.{drop-drop, get_or-drop}
-use borrow.Author.Tests.{le-ltb, lt-ltb, ltb-false, ne_eqb}
-use Rattle.machine.proofs.Lists.{clash, keep_out}
+use lib.ListN.{get_or, length}
+use borrow.Author.Tests.{lt-ltb, ltb-false, ne_eqb}
+use Rattle.machine.proofs.Lists.{clash, less_or_not}
 use Rattle.machine.proofs.Queues.{first_at, sent_there}
-use Rattle.machine.specs.Lists.{keep, to_end}
-use Rattle.machine.specs.Tables.{Tables, active, ended, first, first_of, is_at, lives, owned, place_of, queue, saved, sent, tables_of}
+use Rattle.machine.specs.Lists.{to_end}
+use Rattle.machine.specs.Tables.{Tables, active, ended, first, lives, owned, place_of, saved, sent}
 use Rattle.machine.specs.declared.numbers.Thread.{Thread}
-use Rattle.std.specs.Prelude.{Some}
-use Rattle.tables.specs.Good.{Good}
+use Rattle.std.specs.Prelude.{Option, Some, None, MatchOption}
+use Rattle.std.specs.Option.{unwrap_or}
 use Rattle.tables.specs.Idle.{Behind, Idle, IdleAfter, behind, idle}
-use Rattle.tables.proofs.Line.{member, searched}
-use Rattle.tables.proofs.Regions.{read_place}
 use Rattle.tables.proofs.Waking.{head}
 
 -- ---- a search that starts behind some
-
--- those at a place are all kept behind the ones that aren't there
-kept_behind : (tables : Tables) (place k : ℕ) (l : List ℕ) → behind tables place k l →
-    keep (is_at tables place) l ≡ keep (is_at tables place) (drop k l)
-kept_behind tables place zero l h = refl
-kept_behind tables place (suc k) [] h = refl
-kept_behind tables place (suc k) (t ∷ rest) h = keep_out (is_at tables place) t rest h.0 ∙ kept_behind tables place k rest h.1
-
-pub search_behind : (size : ℕ) (l : List ℕ) (place skip : ℕ) → Behind (tables_of size l) place skip →
-    first (tables_of size l) place ≡ searched size l place skip
-unfolding tables_of first queue
-search_behind size l place skip h =
-    ap first_of
-    (kept_behind (tables_of size l) place skip (drop (6 * size) l) h
-    ∙ ap (keep (is_at (tables_of size l) place)) (drop-drop skip (6 * size) l))
 
 -- who doesn't live is not at a place of the living
 behind_idle : (tables : Tables) (place k : ℕ) (l : List ℕ) → idle tables k l → 1 < place → behind tables place k l
@@ -49,21 +30,37 @@ behind_idle tables place (suc k) (t ∷ rest) h high =
 pub idle_behind : (tables : Tables) (place skip : ℕ) → Idle tables skip → 1 < place → Behind tables place skip
 idle_behind tables place skip h high = behind_idle tables place skip tables.line h high
 
--- ---- one more that doesn't live
+-- ---- more that don't live
 
-idle_more : (tables : Tables) (k : ℕ) (l : List ℕ) → idle tables k l → lives tables (get_or l k 0) ≡ false →
-    idle tables (suc k) l
-idle_more tables k [] h next = tt
-idle_more tables zero (t ∷ rest) h next = (next, tt)
-idle_more tables (suc k) (t ∷ rest) h next = (h.0, idle_more tables k rest h.1 next)
+-- entry by entry
+idle_each : (tables : Tables) (i : ℕ) (l : List ℕ) → ((k : ℕ) → k < i → k < length l → lives tables (get_or l k 0) ≡ false) →
+    idle tables i l
+idle_each tables zero l h = tt
+idle_each tables (suc i) [] h = tt
+idle_each tables (suc i) (t ∷ rest) h =
+    (h 0 (omega arith) (omega arith), idle_each tables i rest (λ k before below. h (suc k) (omega arith) (omega arith)))
 
-pub idle_on : (size : ℕ) (l : List ℕ) (k i : ℕ) → Good size l → k < size → i ≡ 6 * size + k →
-    get_or l (get_or l i 0) 0 ≤ ended → Idle (tables_of size l) k → Idle (tables_of size l) (k + 1)
-unfolding tables_of
-idle_on size l k i g below e low h =
-    let entry : get_or (drop (6 * size) l) k 0 ≡ get_or l i 0 = get_or-drop (6 * size) l k 0 ∙ ap (λ (j : ℕ). get_or l j 0) (sym e) in
-    let place : place_of (tables_of size l) (get_or l i 0) ≡ get_or l (get_or l i 0) 0 = read_place size l (get_or l i 0) (member size l g k i below e) in
-    rw add-one (idle_more (tables_of size l) k (drop (6 * size) l) h (rw (entry, place) (le-ltb ended (get_or l (get_or l i 0) 0) low)))
+idle_at : (tables : Tables) (i : ℕ) (l : List ℕ) → idle tables i l → (k : ℕ) → k < i → k < length l →
+    lives tables (get_or l k 0) ≡ false
+idle_at tables zero l h k before below = absurd (omega arith)
+idle_at tables (suc i) [] h k before below = absurd (omega arith)
+idle_at tables (suc i) (t ∷ rest) h zero before below = h.0
+idle_at tables (suc i) (t ∷ rest) h (suc k) before below = idle_at tables i rest h.1 k (omega arith) (omega arith)
+
+-- a search for one that lives passed over others from the first it looked at up to i
+pub idle_on : (tables : Tables) (skip i : ℕ) → Idle tables skip →
+    ((k : ℕ) → skip ≤ k → k < i → lives tables (get_or tables.line k 0) ≡ false) → Idle tables i
+idle_on tables skip i h passed =
+    idle_each tables i tables.line
+    (λ k before below. less_or_not k skip (λ first. idle_at tables skip tables.line h k first below) (λ later. passed k later before))
+
+pub idle_to : (tables : Tables) (skip size : ℕ) → Idle tables skip → (r : Option ℕ) →
+    MatchOption r ((k : ℕ) → skip ≤ k → k < size → lives tables (get_or tables.line k 0) ≡ false)
+    (λ i. (skip ≤ i) × (i < size) × (lives tables (get_or tables.line i 0) ≡ true)
+    × ((k : ℕ) → skip ≤ k → k < i → lives tables (get_or tables.line k 0) ≡ false)) →
+    Idle tables (unwrap_or r size)
+idle_to tables skip size h None none = idle_on tables skip size h none
+idle_to tables skip size h (Some i) found = idle_on tables skip i h found.3
 
 -- ---- who lives
 

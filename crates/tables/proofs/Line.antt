@@ -1,21 +1,22 @@
 -- Laws of the line in a slice: a thread moved to the end, and the search along it. Assumes nothing.
 use Prim.Native.Nat.{ℕ, zero, suc, ◌+◌, ◌*◌, ◌<◌, ◌≤◌}
 use mathlib.Core.Path.{◌≡◌, refl, sym, ap, ◌∙◌}
+use mathlib.Core.Bool.{Bool, true, false}
 use mathlib.Core.List.{List, [], ◌∷◌, ◌++◌}
 use mathlib.Core.Logic.{◌≢◌}
 use native.Mathlib.Omega.{arith}
-use lib.Dec.{eqb}
 use lib.ListN.{length, get_or, set, take, drop, drop_of_length-le, length-append, length-drop, length-set, take-append-drop, get_or-append}
 use lib.Seq.{drop-append-le, drop_at, drop-cons, drop-set-lt, get_or-drop, length-take-le, take-append-le, take-set-lt}
 use borrow.Author.Tests.{eq-eqb, ne_eqb}
-use Rattle.machine.proofs.Lists.{count_cons, count_nil, keep_in, keep_nil, keep_out, length_to_end, less_or_not, one_if_is, one_if_other, one_if_same, same_or_not}
+use Rattle.std.specs.List.{filter, range_with_len}
+use Rattle.machine.proofs.Lists.{cases, count_cons, count_nil, keep_in, keep_nil, keep_out, length_to_end, less_or_not, one_if_is, one_if_other, one_if_same, same_or_not}
 use Rattle.machine.proofs.Queues.{first_in_line, first_nobody, first_waiter, sent_count}
 use Rattle.machine.specs.Lists.{count, keep, to_end}
-use Rattle.machine.specs.Tables.{first, first_of, is_at, queue, sent, tables_of}
+use Rattle.machine.specs.Tables.{Tables, first, first_of, is_at, queue, sent, tables_of}
 use Rattle.machine.specs.declared.numbers.Thread.{Thread}
 use Rattle.std.specs.Prelude.{Option, Some, None}
 use Rattle.tables.specs.Good.{Good, Left, end_moved}
-use Rattle.tables.proofs.Regions.{read_place}
+use Rattle.tables.specs.Idle.{Behind, behind}
 
 -- a member occurs
 occurs : (l : List ℕ) (i : ℕ) → i < length l → 0 < count (get_or l i 0) l
@@ -206,58 +207,101 @@ sent_left size l l' t p g h e =
 
 -- ---- the search along the line
 
--- those at a place from entry k of the line on, and the first of them
-abbrev pub remaining : ℕ → List ℕ → ℕ → ℕ → List ℕ
-remaining size l place k = keep (is_at (tables_of size l) place) (drop (6 * size + k) l)
+-- a search that passes over members which fail a test stops at the first that is kept
+first_kept : (f : ℕ → Bool) (l : List ℕ) (i : ℕ) → i < length l → f (get_or l i 0) ≡ true →
+    ((k : ℕ) → k < i → f (get_or l k 0) ≡ false) → first_of (keep f l) ≡ Some (record { 0 = get_or l i 0 })
+first_kept f [] i h passes fail = absurd (omega arith)
+first_kept f (x ∷ l) zero h passes fail = ap first_of (keep_in f x l passes)
+first_kept f (x ∷ l) (suc i) h passes fail =
+    ap first_of (keep_out f x l (fail 0 (omega arith)))
+    ∙ first_kept f l i (omega arith) passes (λ k below. fail (suc k) (omega arith))
 
-abbrev pub searched : ℕ → List ℕ → ℕ → ℕ → Option Thread
-searched size l place k = first_of (remaining size l place k)
+none_kept : (f : ℕ → Bool) (l : List ℕ) → ((k : ℕ) → k < length l → f (get_or l k 0) ≡ false) → keep f l ≡ []
+none_kept f [] fail = keep_nil f
+none_kept f (x ∷ l) fail = keep_out f x l (fail 0 (omega arith)) ∙ none_kept f l (λ k below. fail (suc k) (omega arith))
+
+-- a walk by index that asks another test, which agrees with the first at each entry, lets as many pass
+passed : (f test : ℕ → Bool) (l : List ℕ) (a : ℕ) → ((k : ℕ) → k < length l → test (a + k) ≡ f (get_or l k 0)) →
+    length (filter test (range_with_len a (length l))) ≡ length (keep f l)
+passed f test [] a same = ap length (sym (keep_nil f))
+passed f test (x ∷ l) a same =
+    let at : a + 0 ≡ a = omega arith in
+    let here : test a ≡ f x = rw at at (same 0 (omega arith)) in
+    let rest : length (filter test (range_with_len (a + 1) (length l))) ≡ length (keep f l) =
+    passed f test l (a + 1)
+    (λ k below. let on : a + 1 + k ≡ a + suc k = omega arith in ap test on ∙ same (suc k) (omega arith)) in
+    cases (f x)
+    (λ yes. rw (keep_in f x l yes, here, yes) (ap suc rest))
+    (λ no. rw (keep_out f x l no, here, no) rest)
+
+-- those behind which a search starts are not at its place
+skipped : (tables : Tables) (place skip : ℕ) (l : List ℕ) → behind tables place skip l → (k : ℕ) → k < skip →
+    k < length l → is_at tables place (get_or l k 0) ≡ false
+skipped tables place zero l h k before below = absurd (omega arith)
+skipped tables place (suc skip) [] h k before below = absurd (omega arith)
+skipped tables place (suc skip) (t ∷ rest) h zero before below = h.0
+skipped tables place (suc skip) (t ∷ rest) h (suc k) before below =
+    skipped tables place skip rest h.1 k (omega arith) (omega arith)
+
+-- whether the thread at k in the line is at a place
+abbrev pub standing : ℕ → List ℕ → ℕ → ℕ → Bool
+standing size l place k = is_at (tables_of size l) place (get_or (tables_of size l).line k 0)
 
 module _ (size : ℕ) (l : List ℕ) (g : Good size l) where
-  line_is : (tables_of size l).line ≡ drop (6 * size) l
+  pub line_length : length (tables_of size l).line ≡ size
   unfolding tables_of
-  line_is = refl
+  line_length = omega (arith, g.long, length-drop (6 * size) l)
 
-  -- entry k of the line is a thread
-  pub member : (k i : ℕ) → k < size → i ≡ 6 * size + k → get_or l i 0 < size
-  member k i below e =
-      let same : get_or (drop (6 * size) l) k 0 ≡ get_or l i 0 = get_or-drop (6 * size) l k 0 ∙ ap (λ (j : ℕ). get_or l j 0) (sym e) in
-      let there : 0 < count (get_or (drop (6 * size) l) k 0) (drop (6 * size) l) = occurs (drop (6 * size) l) k (omega (arith, g.long, length-drop (6 * size) l)) in
-      less_or_not (get_or l i 0) size (λ h. h)
-      (λ h. absurd (omega (arith, rw same at there, rw line_is at (g.line.no_other (get_or l i 0) h))))
+  -- entry k of the line, ..
+  pub entry : (k : ℕ) → get_or l (6 * size + k) 0 ≡ get_or (tables_of size l).line k 0
+  unfolding tables_of
+  entry k = sym (get_or-drop (6 * size) l k 0)
 
-  pub queue_start : (place : ℕ) → queue (tables_of size l) place ≡ remaining size l place 0
+  -- .. which is a thread
+  pub member : (k : ℕ) → k < size → get_or (tables_of size l).line k 0 < size
+  member k below =
+      let t : ℕ = get_or (tables_of size l).line k 0 in
+      let there : 0 < count t (tables_of size l).line = occurs (tables_of size l).line k (omega (arith, line_length)) in
+      less_or_not t size (λ h. h) (λ h. absurd (omega (arith, there, g.line.no_other t h)))
+
+  pub waiting_count : (place : ℕ) →
+      length (filter (standing size l place) (range_with_len 0 size)) ≡ length (queue (tables_of size l) place)
   unfolding queue
-  queue_start place = let all : 6 * size + 0 ≡ 6 * size = omega arith in rw (all, line_is)
+  waiting_count place =
+      let f : ℕ → Bool = is_at (tables_of size l) place in
+      let all = passed f (standing size l place) (tables_of size l).line 0 (λ k below. let z : 0 + k ≡ k = omega arith in ap (standing size l place) z) in
+      rw line_length at all
 
-  module _ (place k i : ℕ) (below : k < size) (e : i ≡ 6 * size + k) where
-    -- whether entry k is at a place
-    at_entry : is_at (tables_of size l) place (get_or l i 0) ≡ eqb (get_or l (get_or l i 0) 0) place
-    at_entry = ap (λ (p : ℕ). eqb p place) (read_place size l (get_or l i 0) (member k i below e))
+  -- what a search along the line found is the first at the place
+  module _ (place skip : ℕ) (ahead : Behind (tables_of size l) place skip) where
+    before : (i : ℕ) → ((k : ℕ) → skip ≤ k → k < i → standing size l place k ≡ false) →
+        i ≤ size → (k : ℕ) → k < i → standing size l place k ≡ false
+    before i fail most k below =
+        less_or_not k skip
+        (λ h. skipped (tables_of size l) place skip (tables_of size l).line ahead k h (omega (arith, line_length)))
+        (λ h. fail k h below)
 
-    next : 6 * size + (k + 1) ≡ suc i
-    next = omega (arith, e)
+    pub first_found : (i : ℕ) (t : Thread) → t.0 ≡ get_or (tables_of size l).line i 0 → i < size →
+        standing size l place i ≡ true →
+        ((k : ℕ) → skip ≤ k → k < i → standing size l place k ≡ false) →
+        Some t ≡ first (tables_of size l) place
+    unfolding first queue
+    first_found i t is below passes fail =
+        let waiter : ℕ → Option Thread = λ k. Some (record { 0 = k }) in
+        ap waiter is
+        ∙ sym
+        (first_kept (is_at (tables_of size l) place) (tables_of size l).line i (omega (arith, line_length)) passes
+        (before i fail (omega arith)))
 
-    pub entry_in : get_or l (get_or l i 0) 0 ≡ place →
-        remaining size l place k ≡ get_or l i 0 ∷ remaining size l place (k + 1)
-    entry_in h =
-        rw (next, ← e, drop-cons l i 0 (omega (arith, g.long)), keep_in (is_at (tables_of size l) place) (get_or l i 0) (drop (suc i) l) (at_entry ∙ eq-eqb _ _ h))
-
-    pub entry_out : get_or l (get_or l i 0) 0 ≢ place → remaining size l place k ≡ remaining size l place (k + 1)
-    entry_out h =
-        rw (next, ← e, drop-cons l i 0 (omega (arith, g.long)), keep_out (is_at (tables_of size l) place) (get_or l i 0) (drop (suc i) l) (at_entry ∙ ne_eqb _ _ h))
-
-    pub search_found : get_or l (get_or l i 0) 0 ≡ place → searched size l place k ≡ Some (record { 0 = get_or l i 0 })
-    search_found h = ap first_of (entry_in h)
-
-    pub search_on : get_or l (get_or l i 0) 0 ≢ place → searched size l place k ≡ searched size l place (k + 1)
-    search_on h = ap first_of (entry_out h)
-
-  pub queue_end : (place k : ℕ) → size ≤ k → remaining size l place k ≡ []
-  queue_end place k h = rw (drop_of_length-le l {i = 6 * size + k} (omega (arith, g.long)), keep_nil (is_at (tables_of size l) place))
-
-  pub search_end : (place k : ℕ) → size ≤ k → searched size l place k ≡ None
-  search_end place k h = ap first_of (queue_end place k h)
+    pub none_found :
+        ((k : ℕ) → skip ≤ k → k < size → standing size l place k ≡ false) →
+        None ≡ first (tables_of size l) place
+    unfolding first queue
+    none_found fail =
+        sym
+        (ap first_of
+        (none_kept (is_at (tables_of size l) place) (tables_of size l).line
+        (λ k below. before size fail (omega arith) k (omega (arith, line_length)))))
 
   -- who is found is a thread
   pub found_real : (place : ℕ) (t : Thread) → first (tables_of size l) place ≡ Some t → t.0 < size

@@ -1,9 +1,9 @@
 -- Who a mutex's owner is, by its number in the tables. Assumes nothing.
 use Rattle.std.specs.Prelude.{◌≡◌, ◌≢◌, ℕ, Some, None}
-use Rattle.std.proofs.Common.{arith, ap}
+use Rattle.std.proofs.Common.{arith}
 use Rattle.std.proofs.lemmas.Grind.{common_steps}
 use Rattle.machine.specs.declared.numbers.Thread.{Thread}
-use Rattle.tables.specs.Owners.{number_of, owner_at}
+use Rattle.tables.specs.Owners.{owner_at}
 
 module _ (size number : ℕ) where
   -- a mutex that nobody owns

@@ -1,16 +1,18 @@
--- What `any` and `all` over 0, 1, .. tell of a test: whether it passes for some number below a bound, or for every one.
+-- What `any`, `all` and `find` over a range tell of a test: whether it passes for some number below a bound, or for every
+-- one, and the first for which it does.
 -- Assumes nothing.
-use Rattle.std.specs.Prelude.{◌≡◌, ◌+◌, ◌-◌, ◌<◌, ℕ, Bool, true, false, List, Option, MatchOption, length}
+use Rattle.std.specs.Prelude.{◌≡◌, ◌+◌, ◌<◌, ◌≤◌, ℕ, Bool, true, false, List, Option, MatchOption, IfSome, length}
 use Rattle.std.specs.Bool.{MatchBool}
-use Rattle.std.specs.Fn.{Called}
+use Rattle.std.specs.Fn.{Called, CalledAt}
 use Rattle.std.specs.Iterator.{YieldsThen}
 use Rattle.std.specs.List.{AllWithin, FoldsTo, HoldsAt, range_with_len}
 use Rattle.std.specs.declared.ops.Range.{Range}
 use Rattle.std.proofs.Common.{ap, arith, sym, ◌∙◌}
 use Rattle.std.proofs.iter.Yields.{nat_range_steps}
-use Rattle.std.proofs.lemmas.Iterator.{YieldsList-from_range, cases_from_all, cases_from_any}
+use Rattle.std.proofs.lemmas.Iterator.{YieldsList-from_range, cases_from_all, cases_from_any, first_from_Range}
 use Rattle.std.proofs.lemmas.List.FromFn.{get_or-range_with_len, length-range_with_len}
 use denote.Param.Members.{Mut}
+use denote.Ref.{Bor}
 use Rattle.machine.proofs.Every.{every_true, false_some, true_every, true_some}
 use Rattle.machine.proofs.Lists.{cases, clash}
 use Rattle.machine.specs.Lists.{every, some}
@@ -74,3 +76,16 @@ module _ (n : ℕ) (test : ℕ → Bool) where
             v ≡ every n test
         told true h = sym (true_every n test (all_count true h))
         told false h = let at = counts h.0 false h.1 h.2 in sym (every_stop n test h.0 at.0 at.1)
+
+-- the first from a number on that passes, or none below the end does
+pub first_in_range : {F : Type 0} {g : Mut F (Bor ℕ × Unit {0}) Bool} (u : Range ℕ) (f : F) (r : Option ℕ)
+    (low high : ℕ) (test : ℕ → Bool) →
+    (xs : List ℕ) × (j : F) × YieldsThen nat_range_steps (record { start = low; end = high }) xs r u
+    × FoldsTo (λ p x q. CalledAt g p x false q) f xs j × IfSome r (λ x. (h : F) × CalledAt g j x true h) →
+    ((x : ℕ) (b : Bool) (q : F) → CalledAt g f x b q → (q ≡ f) × (b ≡ test x)) →
+    MatchOption r ((k : ℕ) → low ≤ k → k < high → test k ≡ false)
+    (λ i. (low ≤ i) × (i < high) × (test i ≡ true) × ((k : ℕ) → low ≤ k → k < i → test k ≡ false))
+first_in_range u f r low high test ran answers =
+    first_from_Range (record { start = low; end = high }) u f r (λ k. test k ≡ true) (λ k. test k ≡ false) ran
+    (λ x q k. sym (answers x true q k).1)
+    (λ x q k. let a = answers x false q k in (a.0, sym a.1))

@@ -11,7 +11,7 @@ mod queues;
 mod threads;
 mod values;
 
-pub use layout::{line_start, start_at};
+pub use layout::{line_of, start_at};
 pub use order::{first_living, send, waiting};
 pub use owners::{own, owner, owns, owns_any};
 pub use places::{
@@ -19,5 +19,5 @@ pub use places::{
     at_semaphore, awaited_at, awaits_end,
 };
 pub use queues::{dequeue, make_ready, wake_all, wake_first};
-pub use threads::{any_live, has_ended, lives, place, save, saved_cells, saved_fp, saved_pc};
+pub use threads::{any_live, has_ended, lives, place, save, saved};
 pub use values::{count, result, set_count, set_result};

@@ -1,12 +1,12 @@
 // The line: the threads in the order of their arrival, each once. A queue is those of the line that are at one place.
-ghost use Rattle.std.specs.Prelude.{◌≡◌, ◌+◌, ◌*◌, ◌<◌, ◌≤◌, drop, length};
+ghost use Rattle.std.specs.Prelude.{◌≡◌, ◌*◌, ◌<◌, ◌≤◌, drop, get_or, length};
 ghost use Rattle.machine.specs.Lists.{count};
 ghost use Rattle.machine.specs.Tables.{first, queue, sent, tables_of};
 ghost use Rattle.tables.specs.Good.{Good, Left, end_moved};
 ghost use Rattle.tables.specs.Idle.{Behind, Idle};
 
 use crate::layout;
-use crate::places::ENDED;
+use crate::threads::{lives, place as place_of};
 use machine::Thread;
 
 // Moves the one `t` from `from` on to the end of the slice. It walks back from the end, so that what stands before
@@ -38,13 +38,14 @@ pub fn send(tables: &mut [usize], size: usize, t: Thread, place: usize)
     to_end(tables, layout::LINE * size, at);
 }
 
-// Where the line has its entry `k`.
-fn in_line(size: usize, k: usize) -> usize
-    requires size_bound { size ≤ 32 }
+// The thread at `k` in the line.
+fn in_line(tables: &[usize], size: usize, k: usize) -> Thread
+    requires good { Good size tables.now }
     requires k_lt_size { k < size }
-    ensures { result ≡ 6 * size + k }
+    ensures entry { result.0 ≡ get_or (tables_of size tables.now).line k 0 }
+    ensures thread { result.0 < size }
 {
-    layout::LINE * size + k
+    Thread(tables[layout::LINE * size + k])
 }
 
 // How many at the front of the line don't live, if `skip` of them are known not to: where a search may start.
@@ -53,16 +54,9 @@ pub fn first_living(tables: &[usize], size: usize, skip: usize) -> usize
     requires idle { Idle (tables_of size tables.now) skip }
     ensures { Idle (tables_of size tables.now) result }
 {
-    let mut k = skip;
-    while k < size {
-        let i = in_line(size, k);
-        let t = tables[i];
-        if ENDED < tables[t] {
-            return k;
-        }
-        k += 1;
-    }
-    k
+    (skip..size)
+        .find(|&k| lives(tables, size, in_line(tables, size, k)))
+        .unwrap_or(size)
 }
 
 // The first of the line that is at a place. None of the first `skip` is there, so they are not looked at.
@@ -71,14 +65,11 @@ pub fn find(tables: &[usize], size: usize, place: usize, skip: usize) -> Option<
     requires behind { Behind (tables_of size tables.now) place skip }
     ensures { result ≡ first (tables_of size tables.now) place }
 {
-    let mut k = skip;
-    while k < size {
-        let i = in_line(size, k);
-        let t = tables[i];
-        if tables[t] == place {
-            return Some(Thread(t));
+    for k in skip..size {
+        let t = in_line(tables, size, k);
+        if place_of(tables, size, t) == place {
+            return Some(t);
         }
-        k += 1;
     }
     None
 }
@@ -88,15 +79,7 @@ pub fn waiting(tables: &[usize], size: usize, place: usize) -> usize
     requires { Good size tables.now }
     ensures { result ≡ length (queue (tables_of size tables.now) place) }
 {
-    let mut n = 0;
-    let mut j = 0;
-    while j < size {
-        let i = in_line(size, j);
-        let t = tables[i];
-        if tables[t] == place {
-            n += 1;
-        }
-        j += 1;
-    }
-    n
+    (0..size)
+        .filter(|&k| place_of(tables, size, in_line(tables, size, k)) == place)
+        .count()
 }

@@ -15,10 +15,7 @@ pub fn dequeue(tables: &mut [usize], size: usize, from: usize, skip: usize) -> O
     requires behind { Behind (tables_of size tables.old) from skip }
     ensures { Dequeued size tables.old from result tables.new }
 {
-    let found = find(tables, size, from, skip);
-    let Some(t) = found else {
-        return None;
-    };
+    let t = find(tables, size, from, skip)?;
     send(tables, size, t, RUNNING);
     Some(t)
 }
@@ -49,10 +46,7 @@ pub fn wake_all(tables: &mut [usize], size: usize, from: usize)
     requires lt_from { 3 < from }
     ensures { Left size tables.new (wake_all (tables_of size tables.old) from) }
 {
-    loop {
-        let Some(t) = dequeue(tables, size, from, 0) else {
-            return;
-        };
+    while let Some(t) = dequeue(tables, size, from, 0) {
         make_ready(tables, size, t);
     }
 }

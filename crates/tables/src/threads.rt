@@ -5,7 +5,7 @@ ghost use Rattle.tables.specs.Good.{Good, Left};
 
 use crate::layout;
 use crate::places::ENDED;
-use machine::Thread;
+use machine::{Context, Thread};
 
 pub fn place(tables: &[usize], size: usize, t: Thread) -> usize
     requires good { Good size tables.now }
@@ -41,40 +41,30 @@ pub fn any_live(tables: &[usize], size: usize) -> bool
     (0..size).any(|t| lives(tables, size, Thread(t)))
 }
 
-pub fn saved_pc(tables: &[usize], size: usize, t: Thread) -> usize
+// The registers that were saved of a thread, which it goes on with.
+pub fn saved(tables: &[usize], size: usize, t: Thread) -> Context
     requires good { Good size tables.now }
     requires t_lt_size { t.0 < size }
-    ensures { result ≡ get_or (tables_of size tables.now).pcs t.0 0 }
+    ensures pc { result.pc ≡ get_or (tables_of size tables.now).pcs t.0 0 }
+    ensures cells { result.cells ≡ get_or (tables_of size tables.now).depths t.0 0 }
+    ensures fp { result.fp ≡ get_or (tables_of size tables.now).frames t.0 0 }
 {
     let at = t.0;
-    tables[layout::PCS * size + at]
+    Context {
+        pc: tables[layout::PCS * size + at],
+        cells: tables[layout::CELLS * size + at],
+        fp: tables[layout::FRAMES * size + at],
+    }
 }
 
-pub fn saved_cells(tables: &[usize], size: usize, t: Thread) -> usize
-    requires good { Good size tables.now }
-    requires t_lt_size { t.0 < size }
-    ensures { result ≡ get_or (tables_of size tables.now).depths t.0 0 }
-{
-    let at = t.0;
-    tables[layout::CELLS * size + at]
-}
-
-pub fn saved_fp(tables: &[usize], size: usize, t: Thread) -> usize
-    requires good { Good size tables.now }
-    requires t_lt_size { t.0 < size }
-    ensures { result ≡ get_or (tables_of size tables.now).frames t.0 0 }
-{
-    let at = t.0;
-    tables[layout::FRAMES * size + at]
-}
-
-pub fn save(tables: &mut [usize], size: usize, t: Thread, pc: usize, cells: usize, fp: usize)
+pub fn save(tables: &mut [usize], size: usize, t: Thread, context: Context)
     requires good { Good size tables.old }
     requires t_lt_size { t.0 < size }
-    ensures { Left size tables.new (saved (tables_of size tables.old) t.0 pc cells fp) }
+    ensures { Left size tables.new
+        (saved (tables_of size tables.old) t.0 context.pc context.cells context.fp) }
 {
     let at = t.0;
-    tables[layout::PCS * size + at] = pc;
-    tables[layout::CELLS * size + at] = cells;
-    tables[layout::FRAMES * size + at] = fp;
+    tables[layout::PCS * size + at] = context.pc;
+    tables[layout::CELLS * size + at] = context.cells;
+    tables[layout::FRAMES * size + at] = context.fp;
 }

@@ -7,7 +7,7 @@ ghost use Rattle.cells.specs.Contract.{Able, ActsIn, CellOf};
 ghost use Rattle.tables.specs.Good.{Good, Left};
 
 use cells::Opening;
-use machine::{Registers, Thread, faults, sizes};
+use machine::{Context, Registers, Thread, faults, sizes};
 
 // The stack of a new thread: its argument, and no frame to return to.
 fn new_stack(store: &mut [i32], size: usize, t: Thread, v: i32)
@@ -37,7 +37,12 @@ fn make_thread(
 {
     let t = Thread(made);
     new_stack(store, size, t, v);
-    tables::save(tables, size, t, entry, sizes::NEW_CELLS, sizes::NEW_FP);
+    let context = Context {
+        pc: entry,
+        cells: sizes::NEW_CELLS,
+        fp: sizes::NEW_FP,
+    };
+    tables::save(tables, size, t, context);
     tables::make_ready(tables, size, t);
     t
 }

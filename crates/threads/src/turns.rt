@@ -9,7 +9,7 @@ ghost use Rattle.tables.specs.Good.{Good};
 ghost use Rattle.tables.specs.Idle.{Idle, IdleAfter};
 ghost use Rattle.threads.specs.Contract.{Goes};
 
-use machine::{Registers, Thread, states};
+use machine::{Context, Registers, Thread, states};
 
 // With nobody ready: halted if no thread lives, else stuck.
 fn idle(tables: &[usize], size: usize, r: Registers) -> Registers
@@ -32,9 +32,7 @@ pub fn next(tables: &mut [usize], size: usize, r: Registers, skip: usize) -> Reg
     let Some(t) = tables::dequeue(tables, size, tables::READY, skip) else {
         return idle(tables, size, r);
     };
-    let pc = tables::saved_pc(tables, size, t);
-    let cells = tables::saved_cells(tables, size, t);
-    let fp = tables::saved_fp(tables, size, t);
+    let Context { pc, cells, fp } = tables::saved(tables, size, t);
     r.switch(t, pc, cells, fp)
 }
 
@@ -45,7 +43,12 @@ pub fn leave(tables: &mut [usize], size: usize, r: Registers, place: usize) -> R
     ensures { Goes size (λ s. left size s place) tables.old r tables.new result }
 {
     let t = Thread(r.thread);
-    tables::save(tables, size, t, r.pc, r.cells, r.fp);
+    let context = Context {
+        pc: r.pc,
+        cells: r.cells,
+        fp: r.fp,
+    };
+    tables::save(tables, size, t, context);
     tables::send(tables, size, t, place);
     r.with_state(r.state, size)
 }

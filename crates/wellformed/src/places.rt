@@ -6,7 +6,7 @@ ghost use Rattle.machine.specs.WellFormed.{joiner_fits, saved_fits, thread_fits,
 ghost use Rattle.cells.specs.Contract.{Made};
 ghost use Rattle.tables.specs.Good.{Good};
 
-use machine::{Mutex, Registers, Thread};
+use machine::{Context, Mutex, Registers, Thread};
 use ranges::frame_fits;
 use tables::Awaited;
 
@@ -15,9 +15,7 @@ fn saved_fits(tables: &[usize], size: usize, t: usize) -> bool
     requires t_lt_size { t < size }
     ensures { result ≡ saved_fits (tables_of size tables.now) t }
 {
-    let pc = tables::saved_pc(tables, size, Thread(t));
-    let cells = tables::saved_cells(tables, size, Thread(t));
-    let fp = tables::saved_fp(tables, size, Thread(t));
+    let Context { pc, cells, fp } = tables::saved(tables, size, Thread(t));
     frame_fits(pc, cells, fp)
 }
 
@@ -51,7 +49,7 @@ fn joiner_fits(tables: &[usize], size: usize, t: usize) -> bool
     ensures { result ≡ joiner_fits size (tables_of size tables.now) t }
 {
     let place = tables::place(tables, size, Thread(t));
-    !tables::awaits_end(size, place) || 0 < tables::saved_cells(tables, size, Thread(t))
+    !tables::awaits_end(size, place) || 0 < tables::saved(tables, size, Thread(t)).cells
 }
 
 fn thread_fits(r: Registers, tables: &[usize], size: usize, t: usize) -> bool

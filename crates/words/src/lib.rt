@@ -19,7 +19,8 @@ pub fn find(text: &[u8], at: usize, sep: u8) -> usize
 
 // The parts in front of the first separator and behind it, where there is one.
 pub fn split_once(text: &[u8], sep: u8) -> Option<(&[u8], &[u8])>
-    ensures parts { MatchOption result (split sep text.now ≡ text.now ∷ []) (λ p. split sep text.now ≡ p.0.now ∷ split sep p.1.now) }
+    ensures parts { MatchOption result (split sep text.now ≡ text.now ∷ [])
+        (λ p. split sep text.now ≡ p.0.now ∷ split sep p.1.now) }
     ensures size { IfSome result (λ p. length text.now ≡ length p.0.now + 1 + length p.1.now) }
 {
     let end = find(text, 0, sep);

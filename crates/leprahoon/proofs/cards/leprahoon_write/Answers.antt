@@ -6,6 +6,6 @@ use Rattle.leprahoon.proofs.cards.leprahoon_write.Goals as goal
 pub returns : goal.returns
 returns c =
     record {
-      reported = c.list_of_writing.ensures ∙ ap report_of c.write.ensures.answered;
+      reported = c.list_of_result.ensures ∙ ap report_of c.write.ensures.answered;
       left = c.write.ensures.left;
     }

@@ -6,6 +6,6 @@ use Rattle.leprahoon.proofs.texts.leprahoon_import.Goals as goal
 pub returns : goal.returns
 returns c =
     record {
-      reported = c.list_of_importing.ensures ∙ ap report_of c.import.ensures.answered;
+      reported = c.list_of_result.ensures ∙ ap report_of c.import.ensures.answered;
       left = c.import.ensures.left;
     }

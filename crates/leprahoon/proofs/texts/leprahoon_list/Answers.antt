@@ -6,6 +6,6 @@ use Rattle.leprahoon.proofs.texts.leprahoon_list.Goals as goal
 pub returns : goal.returns
 returns c =
     record {
-      reported = c.list_of_listing.ensures ∙ ap report_of c.list_line.ensures.answered;
+      reported = c.list_of_result.ensures ∙ ap report_of c.list_line.ensures.answered;
       left = c.list_line.ensures.left;
     }

@@ -31,21 +31,21 @@ three line content before w a b d new start p q r =
 
 pub put-requires-2 : goal.put-requires-2
 put-requires-2 c =
-    let new = ap (λ (x : MutBor (List ℕ)). length x.now) c.new-w.ensures.0 in
-    let first = as_long c.args.line c.args.content Start c.new-w.result c.put.new.self c.put.ensures.0 in
+    let new = ap (λ (x : MutBor (List ℕ)). length x.now) c.new-w.ensures.lent in
+    let first = as_long c.args.line c.args.content Start c.new-w.result c.put.new.self c.put.ensures.puts in
     omega (arith, new, first)
 
 pub put-requires-3 : goal.put-requires-3
 put-requires-3 c =
-    let new = ap (λ (x : MutBor (List ℕ)). length x.now) c.new-w.ensures.0 in
-    let first = as_long c.args.line c.args.content Start c.new-w.result c.put.new.self c.put.ensures.0 in
-    let second = as_long c.args.line c.args.content Content c.put.new.self c.put-2.new.self c.put-2.ensures.0 in
+    let new = ap (λ (x : MutBor (List ℕ)). length x.now) c.new-w.ensures.lent in
+    let first = as_long c.args.line c.args.content Start c.new-w.result c.put.new.self c.put.ensures.puts in
+    let second = as_long c.args.line c.args.content Content c.put.new.self c.put-2.new.self c.put-2.ensures.puts in
     omega (arith, new, first, second)
 
-pub returns : goal.returns
-returns c =
-    let new = ap (λ (x : MutBor (List ℕ)). x.now) c.new-w.ensures.0 in
+pub returns-clause-puts : goal.returns-clause-puts
+returns-clause-puts c =
+    let new = ap (λ (x : MutBor (List ℕ)). x.now) c.new-w.ensures.lent in
     let all =
     three c.args.line c.args.content c.args.out.now c.new-w.result c.put.new.self c.put-2.new.self c.put-3.new.self
-    new c.new-w.ensures.1 c.put.ensures.0 c.put-2.ensures.0 c.put-3.ensures.0 in
-    (record { written = (grind arith) ∙ all.written; reached = c.place.ensures ∙ all.reached }, omega arith)
+    new c.new-w.ensures.start c.put.ensures.puts c.put-2.ensures.puts c.put-3.ensures.puts in
+    record { written = (grind arith) ∙ all.written; reached = c.place.ensures ∙ all.reached }

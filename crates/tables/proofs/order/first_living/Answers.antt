@@ -1,23 +1,14 @@
 -- `tables::order::first_living` meets its contract. Assumes nothing.
-use native.Mathlib.Omega.{arith}
-use Rattle.tables.proofs.Idle.{idle_on}
-use Rattle.tables.proofs.Line.{member}
+use Rattle.std.specs.Prelude.{get_or}
+use Rattle.std.proofs.Common.{rules}
+use Rattle.machine.specs.Tables.{lives, tables_of}
+use Rattle.tables.proofs.Idle.{idle_to}
+use Rattle.tables.proofs.Tests.{first_in_range}
 use Rattle.tables.proofs.order.first_living.Goals as goal
 
-pub loop-k-init : goal.loop-k-init
-loop-k-init c = c.requires.idle
-
-pub offset_bounds-tables-t : goal.offset_bounds-tables-t
-offset_bounds-tables-t c = omega (arith, c.requires.good.small, c.requires.good.long, member _ _ c.requires.good _ _ c.loop-k-test.true c.in_line-i.ensures)
-
-pub bounds-tables-t : goal.bounds-tables-t
-bounds-tables-t c = omega (arith, c.requires.good.long, member _ _ c.requires.good _ _ c.loop-k-test.true c.in_line-i.ensures)
-
-pub returns-then-tables-t-gt-ENDED : goal.returns-then-tables-t-gt-ENDED
-returns-then-tables-t-gt-ENDED c = c.loop-k.invariant
-
-pub loop-k-preserved : goal.loop-k-preserved
-loop-k-preserved c = idle_on _ _ _ _ c.requires.good c.loop-k-test.true c.in_line-i.ensures (omega arith) c.loop-k.invariant
-
 pub returns : goal.returns
-returns c = c.loop-k.invariant
+returns c =
+    let tables = tables_of c.args.size c.args.tables.now in
+    rw c.unwrap_or.ensures
+    (idle_to tables c.args.skip c.args.size c.requires.idle c.find.result
+    (first_in_range _ _ _ _ _ (λ k. lives tables (get_or tables.line k 0)) c.find.ensures.ran (λ x b q h. search rules)))

@@ -15,5 +15,5 @@ bounds-tables-size-3 c = simp length-set (omega arith)
 pub returns : goal.returns
 returns c =
     let a = c.args in
-    still_good a.size a.tables.now _ _ c.requires.good (store_saved a.size a.tables.now a.t.0 a.pc a.cells a.fp c.requires.t_lt_size)
-    (saved_line (tables_of a.size a.tables.now) a.t.0 a.pc a.cells a.fp) (simp length-set)
+    still_good a.size a.tables.now _ _ c.requires.good (store_saved a.size a.tables.now a.t.0 a.context.pc a.context.cells a.context.fp c.requires.t_lt_size)
+    (saved_line (tables_of a.size a.tables.now) a.t.0 a.context.pc a.context.cells a.context.fp) (simp length-set)

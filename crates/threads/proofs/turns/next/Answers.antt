@@ -18,20 +18,18 @@ returns-in_default c =
       good = d.left.good;
     }
 
-pub saved_pc-pc-requires : goal.saved_pc-pc-requires
-saved_pc-pc-requires c = record { good = c.dequeue.ensures.left.good; t_lt_size = c.dequeue.ensures.real _ c.in-Some.is }
-
-pub saved_cells-cells-requires : goal.saved_cells-cells-requires
-saved_cells-cells-requires c = record { good = c.dequeue.ensures.left.good; t_lt_size = c.dequeue.ensures.real _ c.in-Some.is }
-
-pub saved_fp-fp-requires : goal.saved_fp-fp-requires
-saved_fp-fp-requires c = record { good = c.dequeue.ensures.left.good; t_lt_size = c.dequeue.ensures.real _ c.in-Some.is }
+pub saved-pc-requires : goal.saved-pc-requires
+saved-pc-requires c = record { good = c.dequeue.ensures.left.good; t_lt_size = c.dequeue.ensures.real _ c.in-Some.is }
 
 pub returns : goal.returns
 returns c =
     let d = c.dequeue.ensures in
     let who = c.in-Some.is in
+    let context = c.saved-pc.ensures in
     record {
-      is = λ store values. rw (c.switch.ensures, c.saved_pc-pc.ensures, c.saved_cells-cells.ensures, c.saved_fp-fp.ensures) (first_runs _ store values _ _ _ _ (took_first _ _ _ _ _ _ d who) (took_tables _ _ _ _ _ _ d who));
+      is =
+          λ store values.
+          rw (c.switch.ensures, context.pc, context.cells, context.fp)
+          (first_runs _ store values _ _ _ _ (took_first _ _ _ _ _ _ d who) (took_tables _ _ _ _ _ _ d who));
       good = d.left.good;
     }

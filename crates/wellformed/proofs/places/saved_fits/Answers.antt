@@ -2,4 +2,4 @@
 use Rattle.wellformed.proofs.places.saved_fits.Goals as goal
 
 pub returns : goal.returns
-returns c = rw (c.saved_pc-pc.ensures, c.saved_cells-cells.ensures, c.saved_fp-fp.ensures) at c.frame_fits.ensures
+returns c = rw (c.saved-pc.ensures.pc, c.saved-pc.ensures.cells, c.saved-pc.ensures.fp) at c.frame_fits.ensures

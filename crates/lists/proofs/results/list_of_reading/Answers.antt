@@ -1,8 +1,0 @@
--- `lists::results::list_of_reading` meets its contract. Assumes nothing.
-use Rattle.lists.proofs.results.list_of_reading.Goals as goal
-
-pub returns-in-Accepted : goal.returns-in-Accepted
-returns-in-Accepted c = rw c.in-Accepted.is
-
-pub returns-in-Refused : goal.returns-in-Refused
-returns-in-Refused c = rw c.in-Refused.is
