@@ -2,15 +2,13 @@
 use Prim.Native.Nat.{ℕ, ◌<◌}
 use mathlib.Core.Path.{◌≡◌, refl, ap, sym, ◌∙◌}
 use mathlib.Core.Bool.{Bool, true, false, cond}
-use native.Mathlib.Omega.{arith}
 use lib.Dec.{ltb}
 use lib.IntN.{ℤ}
 use borrow.Author.Tests.{ltb-true}
+use Rattle.std.specs.Prelude.{Option, Some, None}
 use Rattle.machine.specs.Execution.{Outcome, fault, within}
 use Rattle.cells.specs.Contract.{index_of}
 use Rattle.cells.specs.Openings.{opening_at, opening_of}
-use Rattle.cells.specs.declared.index.Index.{Index}
-use Rattle.cells.specs.declared.index.Index.TheVariants.{In, Out}
 use Rattle.cells.specs.declared.openings.Opening.{Opening}
 use Rattle.cells.specs.declared.openings.Opening.TheVariants.{Room, Full, Wrong}
 use Rattle.cells.proofs.Tests.{within_in, within_out}
@@ -26,26 +24,26 @@ module _ (z : ℤ) (limit made most : ℕ) where
   pub has_room : (a : ℕ) → opening_of z limit made most ≡ Room a → made < most
   has_room a e = by_room (ltb made most) refl (index_of z limit) e
     where
-      by_room : (room : Bool) → ltb made most ≡ room → (i : Index) → opening_at i room ≡ Room a → made < most
+      by_room : (room : Bool) → ltb made most ≡ room → (i : Option ℕ) → opening_at i room ≡ Room a → made < most
       by_room true h i k = ltb-true made most h
-      by_room false h (In b) k = absurd (let w : ◌≡◌ {A = ℕ} 0 1 = cc in omega arith)
-      by_room false h Out k = absurd (let w : ◌≡◌ {A = ℕ} 0 1 = cc in omega arith)
+      by_room false h (Some b) k = absurd cc
+      by_room false h None k = absurd cc
 
   -- the two tests, by what was found
   pub opens : (number : ℕ) (f : ℕ → Outcome) (full : Outcome) (o : Opening) → opening_of z limit made most ≡ o →
       within z limit number (λ a. cond (ltb made most) (f a) full) ≡ opened o f full number
   opens number f full o h = by_index (index_of z limit) refl ∙ ap (λ (x : Opening). opened x f full number) h
     where
-      split : (room : Bool) (a : ℕ) → cond room (f a) full ≡ opened (opening_at (In a) room) f full number
+      split : (room : Bool) (a : ℕ) → cond room (f a) full ≡ opened (opening_at (Some a) room) f full number
       split true a = refl
       split false a = refl
 
-      by_index : (i : Index) → index_of z limit ≡ i →
+      by_index : (i : Option ℕ) → index_of z limit ≡ i →
           within z limit number (λ a. cond (ltb made most) (f a) full)
           ≡ opened (opening_of z limit made most) f full number
-      by_index (In a) k =
+      by_index (Some a) k =
           within_in z limit number (λ b. cond (ltb made most) (f b) full) a k ∙ split (ltb made most) a
-          ∙ ap (λ (i : Index). opened (opening_at i (ltb made most)) f full number) (sym k)
-      by_index Out k =
+          ∙ ap (λ (i : Option ℕ). opened (opening_at i (ltb made most)) f full number) (sym k)
+      by_index None k =
           within_out z limit number (λ b. cond (ltb made most) (f b) full) k
-          ∙ ap (λ (i : Index). opened (opening_at i (ltb made most)) f full number) (sym k)
+          ∙ ap (λ (i : Option ℕ). opened (opening_at i (ltb made most)) f full number) (sym k)

@@ -1,12 +1,13 @@
 -- What the instructions on cells ask, and what they promise: the state that the definitions give, whatever else the
 -- machine holds.
-use Rattle.std.specs.Prelude.{ℕ, ◌*◌, ◌<◌, ◌≤◌, Bool, true, false, cond, List, ◌≡◌, ltb, ℤ, pos, negsuc}
+use Rattle.std.specs.Prelude.{ℕ, ◌*◌, ◌<◌, ◌≤◌, Bool, true, false, cond, List, ◌≡◌, ltb, ℤ, pos, negsuc, Option, Some, None, Result, Ok, Err}
+use Rattle.machine.specs.Faults.{number_of}
 use Rattle.machine.specs.Instructions.{Instruction}
+use Rattle.machine.specs.Registers.{stopped}
 use Rattle.machine.specs.State.{State}
 use Rattle.machine.specs.Step.{executed}
 use Rattle.machine.specs.Tables.{Tables, tables_of}
-use Rattle.cells.specs.declared.index.Index.{Index}
-use Rattle.cells.specs.declared.index.Index.TheVariants.{In, Out}
+use Rattle.machine.specs.declared.faults.Fault.{Fault}
 use Rattle.machine.specs.declared.registers.Registers.{Registers}
 
 -- a cell of a thread's stack is in the store
@@ -30,6 +31,11 @@ pub record Able (size : ℕ) (r : Registers) (long : ℕ) : Type 0 where
 -- the machine with these lists and registers
 abbrev pub at : List ℤ → Tables → List ℤ → Registers → State
 at store tables values r = record { store = store; tables = tables; values = values; regs = r }
+
+-- the registers after an instruction from r: those that it left, or r with the fault
+abbrev pub settled_of : Registers → Result Registers Fault → Registers
+settled_of r (Ok q) = q
+settled_of r (Err f) = stopped r (number_of f)
 
 -- the state after an instruction, from registers whose PC is at it
 abbrev pub after : ℕ → ℕ → State → Instruction → State
@@ -75,9 +81,9 @@ pub record Made (size : ℕ) (r : Registers) : Type 0 where
   pub semaphores : r.semaphores ≤ size
 
 -- a cell's value as a number below a limit
-abbrev pub index_of : ℤ → ℕ → Index
-index_of (pos a) limit = cond (ltb a limit) (In a) Out
-index_of (negsuc a) limit = Out
+abbrev pub index_of : ℤ → ℕ → Option ℕ
+index_of (pos a) limit = cond (ltb a limit) (Some a) None
+index_of (negsuc a) limit = None
 
 -- an instruction on the registers alone does so in every box, on every store
 abbrev pub DoesAnywhere : Instruction → Registers → Registers → Type 0

@@ -1,8 +1,9 @@
 // Attempts: the context past an instruction, and the registers after it was tried.
 ghost use Rattle.std.specs.Prelude.{◌≡◌, ◌<◌};
-ghost use Rattle.cells.specs.Attempts.{past_of, settled_of};
+ghost use Rattle.cells.specs.Attempts.{past_of};
+ghost use Rattle.cells.specs.Contract.{settled_of};
 
-use machine::{Attempt, Context, Registers};
+use machine::{Context, Fault, Registers};
 
 pub fn past(r: Registers) -> Context
     requires { r.pc < 4096 }
@@ -16,12 +17,8 @@ pub fn past(r: Registers) -> Context
 }
 
 // A fault leaves everything else as it was, PC too.
-pub fn settled(r: Registers, a: Attempt) -> Registers
-    ensures { result ≡ settled_of r a }
+pub fn settled(r: Registers, after: Result<Registers, Fault>) -> Registers
+    ensures { result ≡ settled_of r after }
 {
-    if a.ok {
-        r.with_context(a.context)
-    } else {
-        r.stop(a.fault)
-    }
+    after.unwrap_or_else(|fault| r.stop(fault))
 }

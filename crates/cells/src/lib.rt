@@ -5,11 +5,13 @@
 mod attempts;
 mod cells;
 mod index;
+mod kinds;
 mod openings;
 mod top;
 
 pub use attempts::{past, settled};
 pub use cells::{peek, poke, read, write};
-pub use index::{Index, checked, offset};
+pub use index::{checked, offset};
+pub use kinds::Numbered;
 pub use openings::{Opening, opening_for};
-pub use top::{Named, number_at, popped};
+pub use top::{named, popped};

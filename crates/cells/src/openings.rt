@@ -3,7 +3,7 @@
 ghost use Rattle.std.specs.Prelude.{◌≡◌};
 ghost use Rattle.cells.specs.Openings.{opening_of};
 
-use crate::index::{Index, checked};
+use crate::index::checked;
 
 #[derive(Clone, Copy)]
 pub enum Opening {
@@ -20,13 +20,8 @@ pub fn opening_for(v: i32, limit: usize, made: usize, most: usize) -> Opening
     ensures { result ≡ opening_of v limit made most }
 {
     match checked(v, limit) {
-        Index::Out => Opening::Wrong,
-        Index::In(a) => {
-            if made < most {
-                Opening::Room(a)
-            } else {
-                Opening::Full
-            }
-        }
+        None => Opening::Wrong,
+        Some(a) if made < most => Opening::Room(a),
+        Some(_) => Opening::Full,
     }
 }

@@ -1,7 +1,6 @@
 // Conditions. Inner: the engine calls these functions on a running machine.
-#![tactic(auto)]
+#![tactic(auto, unfolding(machine::specs::Execution::exec, machine::specs::Execution::needs, machine::specs::Execution::within, cells::specs::Top::number_at, machine::specs::Execution::rooms, machine::specs::Execution::owns))]
 
-mod numbers;
 mod waiting;
 mod waking;
 

@@ -8,11 +8,11 @@ ghost use Rattle.local.specs.Contract.{Permitted};
 ghost use Rattle.machine.specs.Instructions.{instruction_of};
 
 use local::natural;
-use machine::{Attempt, Context};
+use machine::{Context, Fault};
 use opcodes::opcode;
 
 // Tries the instruction in context `c`, with PC past it.
-#[tactic(auto, unfolding(machine::specs::Instructions::instruction_of))]
+
 pub fn attempt(
     store: &mut [i32],
     size: usize,
@@ -21,7 +21,7 @@ pub fn attempt(
     c: Context,
     opcode: u32,
     operand: i32,
-) -> Attempt
+) -> Result<Context, Fault>
     requires fit { Fit size t c (length store.old) }
     requires permitted { Permitted n opcode operand }
     requires own { Own opcode }

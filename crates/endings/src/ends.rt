@@ -2,13 +2,14 @@
 ghost use Rattle.std.specs.Prelude.{◌*◌, ◌<◌, ◌≡◌, length};
 ghost use Rattle.machine.specs.Instructions.{exit, finalize, join};
 ghost use Rattle.machine.specs.Tables.{at_end, tables_of};
-ghost use Rattle.cells.specs.Contract.{Able, Changes, DoesAnywhere, Made};
+ghost use Rattle.cells.specs.Contract.{Able, Changes, DoesAnywhere, Made, settled_of};
 ghost use Rattle.tables.specs.Good.{Good};
 ghost use Rattle.endings.specs.Contract.{Ends, Receivers};
 
 use crate::delivery::deliver;
-use machine::{Registers, Thread, faults};
-use threads::{AThread, a_thread, block, next};
+use cells::named;
+use machine::{Fault, Registers, Thread};
+use threads::{block, next};
 
 // The running thread ends with a result, which those who wait for it get, and the next one runs.
 pub fn finish(
@@ -41,23 +42,23 @@ pub fn exit(
     values: &mut [i32],
     size: usize,
     r: Registers,
-) -> Registers
+) -> Result<Registers, Fault>
     requires able { Able size r (length store.old) }
     requires good { Good size tables.old }
     requires values_len { length values.old ≡ 2 * size }
     requires receivers { Receivers size (at_end size r.thread) (tables_of size tables.old) }
     ensures { Changes size exit store.old tables.old values.old r
-        store.new tables.new values.new result }
+        store.new tables.new values.new (settled_of r result) }
 {
     let cells = r.cells;
     if cells < 1 {
-        return r.stop(faults::STACK_UNDERFLOW);
+        return Err(Fault::StackUnderflow);
     }
     if tables::owns_any(tables, size, Thread(r.thread)) {
-        return r.stop(faults::STILL_OWNER);
+        return Err(Fault::StillOwner);
     }
     let top = cells::peek(store, size, r.thread, cells - 1);
-    finish(store, tables, values, size, r.advance(), top)
+    Ok(finish(store, tables, values, size, r.advance(), top))
 }
 
 // The result of a thread that has ended goes on top at once. Of any other it comes with that thread's end.
@@ -67,35 +68,31 @@ pub fn join(
     values: &[i32],
     size: usize,
     r: Registers,
-) -> Registers
+) -> Result<Registers, Fault>
     requires able { Able size r (length store.old) }
     requires good { Good size tables.old }
     requires values_len { length values.now ≡ 2 * size }
     requires made { Made size r }
     ensures { Changes size join store.old tables.old values.now r
-        store.new tables.new values.now result }
+        store.new tables.new values.now (settled_of r result) }
 {
-    match a_thread(store, size, r) {
-        AThread::Fault(number) => r.stop(number),
-        AThread::Made(t) => {
-            if !tables::has_ended(tables, size, t) {
-                return block(tables, size, r.advance(), tables::at_end(size, t), 0);
-            }
-            let v = tables::result(values, t);
-            let cells = r.cells;
-            cells::poke(store, size, r.thread, cells - 1, v);
-            r.advance()
-        }
+    let t = named::<Thread>(store, size, r, 1)?;
+    if !tables::has_ended(tables, size, t) {
+        return Ok(block(tables, size, r.advance(), tables::at_end(size, t), 0));
     }
+    let v = tables::result(values, t);
+    let cells = r.cells;
+    cells::poke(store, size, r.thread, cells - 1, v);
+    Ok(r.advance())
 }
 
 // After a join the result is on top already: nothing is left to do.
-pub fn finalize(r: Registers) -> Registers
+pub fn finalize(r: Registers) -> Result<Registers, Fault>
     requires { r.pc < 4096 }
-    ensures { DoesAnywhere finalize r result }
+    ensures { DoesAnywhere finalize r (settled_of r result) }
 {
     if r.cells < 1 {
-        return r.stop(faults::STACK_UNDERFLOW);
+        return Err(Fault::StackUnderflow);
     }
-    r.advance()
+    Ok(r.advance())
 }

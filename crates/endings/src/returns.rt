@@ -3,13 +3,13 @@ ghost use Rattle.std.specs.Prelude.{◌*◌, ◌≡◌, length};
 ghost use Rattle.machine.specs.Instructions.{return};
 ghost use Rattle.machine.specs.Tables.{at_end, tables_of};
 ghost use Rattle.cells.specs.Attempts.{past_of};
-ghost use Rattle.cells.specs.Contract.{Able, ChangesIn, Tells};
+ghost use Rattle.cells.specs.Contract.{Able, ChangesIn, Tells, settled_of};
 ghost use Rattle.control.specs.Contract.{FirstFrame};
 ghost use Rattle.tables.specs.Good.{Good};
 ghost use Rattle.endings.specs.Contract.{Receivers};
 
 use crate::ends::finish;
-use machine::{Registers, Thread, faults};
+use machine::{Fault, Registers, Thread};
 
 // Whether the running thread is in its first frame, from which there is no way back to a caller.
 fn in_first_frame(store: &[i32], size: usize, r: Registers) -> bool
@@ -30,21 +30,21 @@ pub fn return_from(
     size: usize,
     r: Registers,
     n: usize,
-) -> Registers
+) -> Result<Registers, Fault>
     requires able { Able size r (length store.old) }
     requires good { Good size tables.old }
     requires values_len { length values.old ≡ 2 * size }
     requires receivers { Receivers size (at_end size r.thread) (tables_of size tables.old) }
     ensures { ChangesIn size n return store.old tables.old values.old r
-        store.new tables.new values.new result }
+        store.new tables.new values.new (settled_of r result) }
 {
     if in_first_frame(store, size, r) {
         if tables::owns_any(tables, size, Thread(r.thread)) {
-            return r.stop(faults::STILL_OWNER);
+            return Err(Fault::StillOwner);
         }
         let v = cells::peek(store, size, r.thread, r.fp - 2);
-        return finish(store, tables, values, size, r.advance(), v);
+        return Ok(finish(store, tables, values, size, r.advance(), v));
     }
-    let a = control::back(store, size, r.thread, cells::past(r), n);
-    cells::settled(r, a)
+    let c = control::back(store, size, r.thread, cells::past(r), n)?;
+    Ok(r.with_context(c))
 }

@@ -1,7 +1,7 @@
 -- A stretch under way, whatever tables, values and other registers stand beside the context and the store. Assumes nothing.
 use Prim.Native.Nat.{ℕ, ◌+◌, ◌-◌, ◌<◌, ◌≤◌}
 use mathlib.Core.Path.{◌≡◌, refl, ◌∙◌}
-use mathlib.Core.Bool.{true}
+use Rattle.std.specs.Prelude.{Some}
 use mathlib.Core.List.{List}
 use native.Mathlib.Omega.{arith}
 use lib.IntN.{ℤ}
@@ -20,7 +20,6 @@ use Rattle.local.specs.Contract.{Permitted, Ventures}
 use Rattle.machine.proofs.Equations.{carries}
 use Rattle.machine.specs.Context.{in_context}
 use Rattle.machine.specs.Tables.{tables_of}
-use Rattle.machine.specs.declared.context.Attempt.{Attempt}
 use Rattle.machine.specs.declared.context.Context.{Context}
 
 -- the context past the instruction
@@ -46,13 +45,13 @@ module _ {size : ℕ} {code : List ℕ} (card : Carded code) {m : ℕ} {store₀
       allowed = rw all (record { allowed = (words_of_lem card).permitted c.pc there })
 
       -- the instruction was carried out
-      pub one_more : {store' : List ℤ} {a : Attempt} → Ventures size (length words) (get_or words c.pc 0) store t (past c) store' a →
-          1 ≤ left → a.ok ≡ true → Inside size code m store₀ t c₀ store' a.context (left - 1)
-      one_more {store'} {a} h some ok tables values r runs start =
+      pub one_more : {store' : List ℤ} {c' : Context} → Ventures size (length words) (get_or words c.pc 0) store t (past c) store' (Some c') →
+          1 ≤ left → Inside size code m store₀ t c₀ store' c' (left - 1)
+      one_more {store'} {c'} h some tables values r runs start =
           let u = inside tables values r runs start in
           let w = word code c.pc (omega (arith, there, long card)) in
           let s = state_at size store tables values (in_context r t c) in
-          let is : Carries size code store tables values (in_context r t c) store' tables values (in_context r t a.context) =
-          carries size (length (words_of code)) s _ _ (rw w.is at ((rw all at h).is ok (tables_of size tables) values r))
+          let is : Carries size code store tables values (in_context r t c) store' tables values (in_context r t c') =
+          carries size (length (words_of code)) s _ _ (rw w.is at ((rw all at h).is (tables_of size tables) values r))
           ∙ at_pc code card size s there in
           one_done card u some runs refl is (λ e. omega (arith, runs, e))

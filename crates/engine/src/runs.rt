@@ -11,7 +11,7 @@ use crate::cards::Card;
 use crate::progress::Progress;
 use crate::reached::Reached;
 use crate::turns::turns;
-use machine::{Registers, faults, states};
+use machine::{Fault, Registers, states};
 
 // Carries out the instruction at PC, which ended the turns, or stops with a fault.
 fn carry(
@@ -31,7 +31,7 @@ fn carry(
         store.new tables.new values.new result }
 {
     let Some(i) = card.at(r.pc) else {
-        return r.stop(faults::NO_INSTRUCTION);
+        return r.stop(Fault::NoInstruction);
     };
     let n = card.count();
     dispatch::execute(store, tables, values, size, n, r, i.opcode, i.operand)

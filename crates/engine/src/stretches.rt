@@ -36,14 +36,12 @@ pub fn stretch(
         }
         let past = Context {
             pc: pc + 1,
-            cells: context.cells,
-            fp: context.fp,
+            ..context
         };
-        let tried = local::execute(store, size, t, words.len(), past, words[pc]);
-        if !tried.ok {
+        let Some(after) = local::execute(store, size, t, words.len(), past, words[pc]) else {
             return Reached { at: context, left };
-        }
-        context = tried.context;
+        };
+        context = after;
     }
     Reached {
         at: context,

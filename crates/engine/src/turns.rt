@@ -43,8 +43,8 @@ fn turn(
 {
     match opcode {
         opcode::YIELD => threads::yield_turn(tables, size, r, skip),
-        opcode::LOCK => locks::lock(store, tables, size, r, skip),
-        _ => locks::unlock(store, tables, size, r, skip),
+        opcode::LOCK => cells::settled(r, locks::lock(store, tables, size, r, skip)),
+        _ => cells::settled(r, locks::unlock(store, tables, size, r, skip)),
     }
 }
 

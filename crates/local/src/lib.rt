@@ -8,11 +8,8 @@ ghost use Rattle.cells.specs.Attempts.{Fit};
 ghost use Rattle.instruction.specs.Word.{opcode_of, operand_of};
 ghost use Rattle.local.specs.Contract.{Natural, Permitted, Ventures};
 
-use machine::{Attempt, Context, stopped};
+use machine::Context;
 use opcodes::opcode;
-
-// In place of a fault's number, where the instruction is another: no fault has it.
-const ANOTHER: usize = 1;
 
 // An operand that is a number of cells or a jump's target.
 pub fn natural(k: i32) -> usize
@@ -22,15 +19,21 @@ pub fn natural(k: i32) -> usize
     k as usize
 }
 
-// Tries the instruction `w` of a card of `n`, with PC past it.
-// What each arm's function tries is what the word's opcode says: `tried` shows it for all.
-#[tactic(auto, using(crate::proofs::Ventured::tried), unfolding(machine::specs::Instructions::instruction_of))]
-pub fn execute(store: &mut [i32], size: usize, t: usize, n: usize, c: Context, w: u32) -> Attempt
+// Tries the instruction `w` of a card of `n`, with PC past it: the context after it, or nothing where it is a fault, or
+// an instruction that is taken elsewhere.
+pub fn execute(
+    store: &mut [i32],
+    size: usize,
+    t: usize,
+    n: usize,
+    c: Context,
+    w: u32,
+) -> Option<Context>
     requires fit { Fit size t c (length store.old) }
     requires permitted { Permitted n (opcode_of w) (operand_of w) }
     ensures { Ventures size n w store.old t c store.new result }
 {
-    match instruction::opcode(w) {
+    let tried = match instruction::opcode(w) {
         opcode::LOADC => stack::loadc(store, size, t, c, instruction::operand(w)),
         opcode::LOAD => shared::load(store, size, t, c),
         opcode::STORE => shared::store_cell(store, size, t, c),
@@ -54,6 +57,7 @@ pub fn execute(store: &mut [i32], size: usize, t: usize, n: usize, c: Context, w
         opcode::MARK => stack::mark(store, size, t, c),
         opcode::CALL => control::call(store, size, t, c, n),
         opcode::RETURN => control::back(store, size, t, c, n),
-        _ => stopped(c, ANOTHER),
-    }
+        _ => return None,
+    };
+    tried.ok()
 }

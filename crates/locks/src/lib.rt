@@ -1,8 +1,8 @@
 // Mutexes. Inner: the engine calls these functions on a running machine.
-#![tactic(auto)]
+#![tactic(auto, unfolding(machine::specs::Execution::exec, machine::specs::Execution::needs, machine::specs::Execution::within, cells::specs::Top::number_at, machine::specs::Execution::rooms, machine::specs::Execution::owns))]
 
 mod mutexes;
 mod numbers;
 
 pub use mutexes::{lock, newmutex, unlock, unlock_mutex};
-pub use numbers::{AMutex, a_mutex, push_number};
+pub use numbers::push_number;

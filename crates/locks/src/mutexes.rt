@@ -2,26 +2,27 @@
 ghost use Rattle.std.specs.Prelude.{◌*◌, ◌<◌, length};
 ghost use Rattle.machine.specs.Instructions.{lock, newmutex, unlock};
 ghost use Rattle.machine.specs.Tables.{tables_of, unlocked};
-ghost use Rattle.cells.specs.Contract.{Able, Acts, Does, Made};
+ghost use Rattle.cells.specs.Contract.{Able, Acts, Does, Made, settled_of};
 ghost use Rattle.tables.specs.Good.{Good, Left};
 ghost use Rattle.tables.specs.Idle.{Idle, IdleAfter};
 
-use crate::numbers::{AMutex, a_mutex, push_number};
-use machine::{Mutex, Registers, Thread, faults, sizes};
+use crate::numbers::push_number;
+use cells::named;
+use machine::{Fault, Mutex, Registers, Thread, sizes};
 
-pub fn newmutex(store: &mut [i32], size: usize, r: Registers) -> Registers
+pub fn newmutex(store: &mut [i32], size: usize, r: Registers) -> Result<Registers, Fault>
     requires { Able size r (length store.old) }
-    ensures { Does size newmutex store.old r store.new result }
+    ensures { Does size newmutex store.old r store.new (settled_of r result) }
 {
     if sizes::LAST_CELL < r.cells {
-        return r.stop(faults::STACK_OVERFLOW);
+        return Err(Fault::StackOverflow);
     }
     let made = r.mutexes;
     let q = push_number(store, size, r, made);
     if made < sizes::MUTEXES * size {
-        q.with_made(r.threads, made + 1, r.conditions)
+        Ok(q.with_made(r.threads, made + 1, r.conditions))
     } else {
-        q
+        Ok(q)
     }
 }
 
@@ -32,24 +33,20 @@ pub fn lock(
     size: usize,
     r: Registers,
     skip: usize,
-) -> Registers
+) -> Result<Registers, Fault>
     requires able { Able size r (length store.now) }
     requires good { Good size tables.old }
     requires made { Made size r }
     requires idle_after { IdleAfter (tables_of size tables.old) r.thread skip }
-    ensures { Acts size lock store.now tables.old r store.now tables.new result }
+    ensures { Acts size lock store.now tables.old r store.now tables.new (settled_of r result) }
 {
-    match a_mutex(store, size, r, 1) {
-        AMutex::Fault(number) => r.stop(number),
-        AMutex::Made(m) => {
-            let after = cells::popped(r);
-            let None = tables::owner(tables, size, m) else {
-                return threads::block(tables, size, after, tables::at_mutex(m), skip);
-            };
-            tables::own(tables, size, m, Some(Thread(r.thread)));
-            after
-        }
-    }
+    let m = named::<Mutex>(store, size, r, 1)?;
+    let after = cells::popped(r);
+    let None = tables::owner(tables, size, m) else {
+        return Ok(threads::block(tables, size, after, tables::at_mutex(m), skip));
+    };
+    tables::own(tables, size, m, Some(Thread(r.thread)));
+    Ok(after)
 }
 
 // Only the owner unlocks.
@@ -59,24 +56,20 @@ pub fn unlock(
     size: usize,
     r: Registers,
     skip: usize,
-) -> Registers
+) -> Result<Registers, Fault>
     requires able { Able size r (length store.now) }
     requires good { Good size tables.old }
     requires made { Made size r }
     requires idle { Idle (tables_of size tables.old) skip }
     ensures { Acts size unlock store.now tables.old r store.now
-        tables.new result }
+        tables.new (settled_of r result) }
 {
-    match a_mutex(store, size, r, 1) {
-        AMutex::Fault(number) => r.stop(number),
-        AMutex::Made(m) => {
-            if !tables::owns(tables, size, Thread(r.thread), m) {
-                return r.stop(faults::NOT_OWNER);
-            }
-            unlock_mutex(tables, size, m, skip);
-            cells::popped(r)
-        }
+    let m = named::<Mutex>(store, size, r, 1)?;
+    if !tables::owns(tables, size, Thread(r.thread), m) {
+        return Err(Fault::NotOwner);
     }
+    unlock_mutex(tables, size, m, skip);
+    Ok(cells::popped(r))
 }
 
 // The first waiter owns the mutex and is ready; with none, the mutex is free. None of the first `skip` of the line

@@ -1,17 +1,8 @@
--- A thread's context, which is PC, the number of cells and FP, and what comes of an instruction that is tried in it.
-use Rattle.std.specs.Prelude.{ℕ, true, false}
+-- A thread's context: PC, the number of cells and FP.
+use Rattle.std.specs.Prelude.{ℕ}
 use Rattle.machine.specs.Registers.{switched}
-use Rattle.machine.specs.declared.context.Attempt.{Attempt}
 use Rattle.machine.specs.declared.context.Context.{Context}
 use Rattle.machine.specs.declared.registers.Registers.{Registers}
-
--- it was carried out, ..
-abbrev pub done_with : Context → Attempt
-done_with c = record { context = c; ok = true; fault = 0 }
-
--- .. or it is a fault
-abbrev pub stopped_by : Context → ℕ → Attempt
-stopped_by c number = record { context = c; ok = false; fault = number }
 
 -- registers with this thread running in this context
 abbrev pub in_context : Registers → ℕ → Context → Registers

@@ -1,6 +1,7 @@
 pub mod Size
 pub mod Lists
 pub mod Registers
+pub mod Faults
 pub mod Context
 pub mod Tables
 pub mod State

@@ -3,13 +3,14 @@
 
 mod answers;
 mod context;
-pub mod faults;
+mod faults;
 mod numbers;
 mod registers;
 pub mod sizes;
 pub mod states;
 
 pub use answers::Answer;
-pub use context::{Attempt, Context, done, stopped};
+pub use context::Context;
+pub use faults::{Fault, UnknownFault};
 pub use numbers::{Condition, Mutex, Semaphore, Thread};
 pub use registers::Registers;

@@ -1,9 +1,11 @@
 // The registers. They go in by value and come back advanced.
 ghost use Rattle.std.specs.Prelude.{◌≡◌, ◌≤◌};
 ghost use Rattle.machine.specs.Context.{in_context};
+ghost use Rattle.machine.specs.Faults.{number_of};
 ghost use Rattle.machine.specs.Registers.{advanced, stopped, switched, with_cells, with_free, with_made, with_semaphores, with_state};
 
 use crate::context::Context;
+use crate::faults::Fault;
 use crate::numbers::Thread;
 use crate::states;
 
@@ -62,11 +64,11 @@ impl Registers {
     }
 
     // With a fault: everything else stays.
-    pub fn stop(mut self, number: usize) -> Self
-        ensures { result ≡ stopped self number }
+    pub fn stop(mut self, fault: Fault) -> Self
+        ensures { result ≡ stopped self (number_of fault) }
     {
         self.state = states::FAULTED;
-        self.fault = number;
+        self.fault = fault.number();
         self
     }
 

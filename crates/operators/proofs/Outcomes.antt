@@ -4,14 +4,15 @@ use mathlib.Core.Path.{◌≡◌, refl, ap, ◌∙◌}
 use mathlib.Core.Bool.{Bool, true, false, cond, ◌&&◌}
 use native.Mathlib.Omega.{arith}
 use borrow.Author.Tests.{le-leb, lt-leb, ne_eqb}
-use lib.Dec.{leb, ltb}
-use lib.IntN.{ℤ, pos, negsuc, neg_ℤ}
-use lib.Signed.{mag}
+use lib.Dec.{leb}
+use lib.IntN.{ℤ, pos, negsuc}
+use mir.Syntax.{w32}
+use mir.Val.{SFits}
 use Rattle.arithmetic.specs.Arithmetic.{eq_z}
-use Rattle.machine.specs.Execution.{Outcome, combined, compared, divides, done, exec, fault, fits, needs, replaced}
-use Rattle.machine.specs.Instructions.{instruction_of, neg}
+use Rattle.machine.specs.Execution.{Outcome, combined, compared, divides, done, exec, fault, fits, needs}
+use Rattle.machine.specs.Instructions.{instruction_of}
 use Rattle.machine.specs.State.{State, below, top}
-use Rattle.machine.proofs.Equations.{add_is, sub_is, mul_is, div_is, mod_is, neg_is, eq_is, neq_is, less_is, leq_is}
+use Rattle.machine.proofs.Equations.{add_is, sub_is, mul_is, div_is, mod_is, eq_is, neq_is, less_is, leq_is}
 use Rattle.machine.proofs.Lists.{same_or_not}
 use Rattle.cells.proofs.Fits.{fits_in, fits_out}
 use Rattle.cells.proofs.Tests.{needs_met}
@@ -33,15 +34,6 @@ divides_is (pos (suc b)) o = rw (ne_eqb (suc b) 0 (λ e. omega arith), lt-leb (s
 divides_is (negsuc b) o = refl
 
 module _ (size n : ℕ) (s : State) where
-  -- top's opposite fits, ..
-  pub neg_in : 1 ≤ s.regs.cells → ltb (mag (neg_ℤ (top size s))) 2147483648 ≡ true →
-      exec size n s neg ≡ done (replaced size n s (neg_ℤ (top size s)))
-  neg_in h e = neg_is size n s ∙ needs_met 1 _ _ h ∙ fits_in _ _ e
-
-  -- .. or it does not
-  pub neg_out : 1 ≤ s.regs.cells → ltb (mag (neg_ℤ (top size s))) 2147483648 ≡ false → exec size n s neg ≡ fault 24
-  neg_out h e = neg_is size n s ∙ needs_met 1 _ _ h ∙ fits_out _ _ e
-
   -- an operation's outcome, by the test of the divisor and the result
   abbrev pub computing : Bool → ℤ → Outcome
   computing lacking v = needs 2 s.regs.cells (cond lacking (fault 24) (fits v λ x. done (combined size n s x)))
@@ -67,14 +59,14 @@ module _ (size n : ℕ) (s : State) where
     binary_lacks h e = binary_is ∙ needs_met 2 _ _ h ∙ rw e
 
     -- .. the result is beyond 32 bits, ..
-    pub binary_out : 2 ≤ s.regs.cells → lacking ≡ false → ltb (mag result) 2147483648 ≡ false →
+    pub binary_out : 2 ≤ s.regs.cells → lacking ≡ false → (SFits w32 result → ⊥) →
         exec size n s (instruction_of op k) ≡ fault 24
     binary_out h e outside = binary_is ∙ needs_met 2 _ _ h ∙ rw e (fits_out _ _ outside)
 
     -- .. or it is the new top
-    pub binary_in : 2 ≤ s.regs.cells → lacking ≡ false → ltb (mag result) 2147483648 ≡ true →
+    pub binary_in : 2 ≤ s.regs.cells → lacking ≡ false → SFits w32 result →
         exec size n s (instruction_of op k) ≡ done (combined size n s result)
-    binary_in h e inside = binary_is ∙ needs_met 2 _ _ h ∙ rw e (fits_in _ _ inside)
+    binary_in h e inside = binary_is ∙ needs_met 2 _ _ h ∙ rw e (fits_in _ inside)
 
   pub compare_is : (op : ℕ) (k : ℤ) → 15 ≤ op → op ≤ 18 →
       exec size n s (instruction_of op k) ≡ compared size n s (tested op)

@@ -4,38 +4,43 @@ ghost use Rattle.machine.specs.Instructions.{instruction_of};
 ghost use Rattle.operators.specs.Operators.{tested};
 ghost use Rattle.cells.specs.Attempts.{Fit, Tries};
 
-use machine::{Attempt, Context, done, faults, stopped};
+use machine::{Context, Fault};
 use opcodes::opcode;
 
+#[tactic(auto, unfolding(crate::specs::Operators::tested))]
 fn test(op: u32, a: i32, b: i32) -> bool
     ensures { result ≡ tested op a b }
 {
     match op {
-        opcode::EQ => arithmetic::equal(a, b),
-        opcode::NEQ => !arithmetic::equal(a, b),
-        opcode::LESS => arithmetic::less(a, b),
-        _ => arithmetic::at_most(a, b),
+        opcode::EQ => a == b,
+        opcode::NEQ => a != b,
+        opcode::LESS => a < b,
+        _ => a <= b,
     }
 }
 
 // eq, neq, less and leq, by their opcodes.
-pub fn compare(store: &mut [i32], size: usize, t: usize, c: Context, op: u32) -> Attempt
+pub fn compare(
+    store: &mut [i32],
+    size: usize,
+    t: usize,
+    c: Context,
+    op: u32,
+) -> Result<Context, Fault>
     requires fit { Fit size t c (length store.old) }
-    requires le_op { 15 ≤ op }
-    requires op_bound { op ≤ 18 }
+    requires eq_or_later { 15 ≤ op }
+    requires leq_or_sooner { op ≤ 18 }
     ensures { Tries size (instruction_of op (pos 0)) store.old t c store.new result }
 {
     let cells = c.cells;
     if cells < 2 {
-        return stopped(c, faults::STACK_UNDERFLOW);
+        return Err(Fault::StackUnderflow);
     }
     let below = cells::peek(store, size, t, cells - 2);
     let top = cells::peek(store, size, t, cells - 1);
-    let v = arithmetic::truth(test(op, below, top));
-    cells::poke(store, size, t, cells - 2, v);
-    done(Context {
-        pc: c.pc,
+    cells::poke(store, size, t, cells - 2, i32::from(test(op, below, top)));
+    Ok(Context {
         cells: cells - 1,
-        fp: c.fp,
+        ..c
     })
 }

@@ -1,15 +1,16 @@
 // Passing a semaphore: a count is lowered, and the thread waits where that is negative; it is raised, and the first
 // who waits goes on. Inner: up and down call these functions with the number of a semaphore that was made.
-#![tactic(auto)]
+#![tactic(auto, unfolding(machine::specs::Execution::fits))]
 
 ghost use Rattle.std.specs.Prelude.{cond, ◌≡◌, ◌*◌, ◌<◌, ◌≤◌, pos, length};
 ghost use Rattle.std.specs.Int.Signed.{le_z};
+ghost use Rattle.cells.specs.Contract.{settled_of};
 ghost use Rattle.machine.specs.Execution.{lowering, raising};
 ghost use Rattle.machine.specs.Tables.{at_semaphore, tables_of, wake_first};
 ghost use Rattle.tables.specs.Good.{Good, Left};
 ghost use Rattle.passing.specs.Contract.{Comes, Low};
 
-use machine::{Registers, Semaphore, faults};
+use machine::{Fault, Registers, Semaphore};
 
 // The first who waits is ready, where the count, which was raised, is not positive.
 fn wake_unless_positive(tables: &mut [usize], size: usize, k: Semaphore, count: i32)
@@ -32,23 +33,21 @@ pub fn raise(
     size: usize,
     r: Registers,
     k: Semaphore,
-) -> Registers
+) -> Result<Registers, Fault>
     requires good { Good size tables.old }
     requires values_len { length values.old ≡ 2 * size }
     requires k_lt_size { k.0 < size }
     requires pc_bound { r.pc < 4096 }
     requires le_cells { 1 ≤ r.cells }
     ensures { Comes size (λ n s. raising size n s k.0) tables.old values.old r
-        tables.new values.new result }
+        tables.new values.new (settled_of r result) }
 {
-    let v = arithmetic::sum(tables::count(values, size, k), 1);
-    if !arithmetic::fits(v) {
-        return r.stop(faults::ARITHMETIC);
-    }
-    let raised = v as i32;
+    let Some(raised) = tables::count(values, size, k).checked_add(1) else {
+        return Err(Fault::Arithmetic);
+    };
     tables::set_count(values, size, k, raised);
     wake_unless_positive(tables, size, k, raised);
-    cells::popped(r)
+    Ok(cells::popped(r))
 }
 
 // The semaphore's part of down.

@@ -1,9 +1,8 @@
 // The registers' ranges. A chain of tests is grouped as in its definition.
 ghost use Rattle.std.specs.Prelude.{◌≡◌, ◌≤◌};
-ghost use Rattle.machine.specs.Registers.{is_fault};
 ghost use Rattle.machine.specs.WellFormed.{counts_fit, fault_fits, frame_fits, in_range, registers_fit};
 
-use machine::{Registers, faults, sizes, states};
+use machine::{Fault, Registers, sizes, states};
 
 fn in_range(low: usize, high: usize, x: usize) -> bool
     ensures { result ≡ in_range low high x }
@@ -38,35 +37,12 @@ pub fn registers_fit(r: Registers, size: usize) -> bool
                 && (r.thread < r.threads || r.thread == size)))
 }
 
-// A number of the table from 20 up, in which 29 is missing.
-fn is_fault(number: usize) -> bool
-    ensures { result ≡ is_fault number }
-{
-    match number {
-        faults::NO_INSTRUCTION
-        | faults::STACK_UNDERFLOW
-        | faults::STACK_OVERFLOW
-        | faults::BAD_ADDRESS
-        | faults::ARITHMETIC
-        | faults::BAD_TARGET
-        | faults::BAD_FRAME
-        | faults::NO_MUTEX
-        | faults::NOT_OWNER
-        | faults::BAD_COUNT
-        | faults::STILL_OWNER
-        | faults::NO_CONDITION
-        | faults::NO_THREAD
-        | faults::NO_SEMAPHORE => true,
-        _ => false,
-    }
-}
-
 // A faulted machine has the number of its fault, any other has none.
 pub fn fault_fits(r: Registers) -> bool
     ensures { result ≡ fault_fits r }
 {
     if r.state == states::FAULTED {
-        is_fault(r.fault)
+        Fault::try_from(r.fault).is_ok()
     } else {
         r.fault == 0
     }

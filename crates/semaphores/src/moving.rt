@@ -1,12 +1,12 @@
 // up and down, by the number of the semaphore on top.
 ghost use Rattle.std.specs.Prelude.{◌≡◌, ℕ, ◌*◌, ◌<◌, length};
 ghost use Rattle.machine.specs.Instructions.{down, up};
-ghost use Rattle.cells.specs.Contract.{Able, Changes, Made};
+ghost use Rattle.cells.specs.Contract.{Able, Changes, Made, settled_of};
 ghost use Rattle.tables.specs.Good.{Good};
 ghost use Rattle.passing.specs.Contract.{Low};
 
-use crate::numbers::{ASemaphore, a_semaphore};
-use machine::Registers;
+use cells::named;
+use machine::{Fault, Registers, Semaphore};
 use passing::{lower, raise};
 
 pub fn up(
@@ -15,18 +15,16 @@ pub fn up(
     values: &mut [i32],
     size: usize,
     r: Registers,
-) -> Registers
+) -> Result<Registers, Fault>
     requires able { Able size r (length store.now) }
     requires good { Good size tables.old }
     requires values_len { length values.old ≡ 2 * size }
     requires made { Made size r }
     ensures { Changes size up store.now tables.old values.old r store.now
-        tables.new values.new result }
+        tables.new values.new (settled_of r result) }
 {
-    match a_semaphore(store, size, r) {
-        ASemaphore::Fault(number) => r.stop(number),
-        ASemaphore::Made(k) => raise(tables, values, size, r, k),
-    }
+    let k = named::<Semaphore>(store, size, r, 1)?;
+    raise(tables, values, size, r, k)
 }
 
 pub fn down(
@@ -35,17 +33,15 @@ pub fn down(
     values: &mut [i32],
     size: usize,
     r: Registers,
-) -> Registers
+) -> Result<Registers, Fault>
     requires able { Able size r (length store.now) }
     requires good { Good size tables.old }
     requires values_len { length values.old ≡ 2 * size }
     requires made { Made size r }
     requires by_index { (k : ℕ) → k < r.semaphores → Low size values.old k }
     ensures { Changes size down store.now tables.old values.old r
-        store.now tables.new values.new result }
+        store.now tables.new values.new (settled_of r result) }
 {
-    match a_semaphore(store, size, r) {
-        ASemaphore::Fault(number) => r.stop(number),
-        ASemaphore::Made(k) => lower(tables, values, size, r, k),
-    }
+    let k = named::<Semaphore>(store, size, r, 1)?;
+    Ok(lower(tables, values, size, r, k))
 }

@@ -4,20 +4,19 @@ ghost use Rattle.cells.specs.Attempts.{Fit, Tries};
 ghost use Rattle.std.specs.Prelude.{length};
 
 use cells::poke;
-use machine::{Attempt, Context, done, faults, sizes, stopped};
+use machine::{Context, Fault, sizes};
 
-pub fn loadc(store: &mut [i32], size: usize, t: usize, c: Context, k: i32) -> Attempt
+pub fn loadc(store: &mut [i32], size: usize, t: usize, c: Context, k: i32) -> Result<Context, Fault>
     requires { Fit size t c (length store.old) }
     ensures { Tries size (loadc k) store.old t c store.new result }
 {
     let cells = c.cells;
     if sizes::LAST_CELL < cells {
-        return stopped(c, faults::STACK_OVERFLOW);
+        return Err(Fault::StackOverflow);
     }
     poke(store, size, t, cells, k);
-    done(Context {
-        pc: c.pc,
+    Ok(Context {
         cells: cells + 1,
-        fp: c.fp,
+        ..c
     })
 }

@@ -2,56 +2,55 @@
 ghost use Rattle.std.specs.Prelude.{ℕ, ◌≤◌, ℤ, List, length};
 ghost use Rattle.machine.specs.Instructions.{alloc, dup, mark, pop};
 ghost use Rattle.cells.specs.Attempts.{Fit, Tries};
-ghost use Rattle.cells.specs.Contract.{Able, Does};
+ghost use Rattle.cells.specs.Contract.{Able, Does, settled_of};
 
 use crate::constants::loadc;
 use cells::{peek, poke};
-use machine::{Attempt, Context, Registers, done, faults, sizes, stopped};
+use machine::{Context, Fault, Registers, sizes};
 
-pub fn alloc(store: &mut [i32], size: usize, r: Registers, k: usize) -> Registers
+pub fn alloc(store: &mut [i32], size: usize, r: Registers, k: usize) -> Result<Registers, Fault>
     requires able { Able size r (length store.old) }
     requires k_bound { k ≤ 128 }
-    ensures { Does size (alloc k) store.old r store.new result }
+    ensures { Does size (alloc k) store.old r store.new (settled_of r result) }
 {
     let cells = r.cells;
     let end = cells + k;
     if sizes::STACK < end {
-        return r.stop(faults::STACK_OVERFLOW);
+        return Err(Fault::StackOverflow);
     }
     for i in cells..end {
         poke(store, size, r.thread, i, 0);
     }
-    r.advance().with_cells(end)
+    Ok(r.advance().with_cells(end))
 }
 
-pub fn pop(c: Context) -> Attempt
+pub fn pop(c: Context) -> Result<Context, Fault>
     ensures { (size t : ℕ) (store : List ℤ) → Tries size pop store t c store result }
 {
     let cells = c.cells;
     if cells < 1 {
-        return stopped(c, faults::STACK_UNDERFLOW);
+        return Err(Fault::StackUnderflow);
     }
-    done(Context {
-        pc: c.pc,
+    Ok(Context {
         cells: cells - 1,
-        fp: c.fp,
+        ..c
     })
 }
 
-pub fn dup(store: &mut [i32], size: usize, t: usize, c: Context) -> Attempt
+pub fn dup(store: &mut [i32], size: usize, t: usize, c: Context) -> Result<Context, Fault>
     requires { Fit size t c (length store.old) }
     ensures { Tries size dup store.old t c store.new result }
 {
     let cells = c.cells;
     if cells < 1 {
-        return stopped(c, faults::STACK_UNDERFLOW);
+        return Err(Fault::StackUnderflow);
     }
     let top = peek(store, size, t, cells - 1);
     loadc(store, size, t, c, top)
 }
 
 // FP, as a number.
-pub fn mark(store: &mut [i32], size: usize, t: usize, c: Context) -> Attempt
+pub fn mark(store: &mut [i32], size: usize, t: usize, c: Context) -> Result<Context, Fault>
     requires { Fit size t c (length store.old) }
     ensures { Tries size mark store.old t c store.new result }
 {

@@ -1,3 +1,2 @@
-pub mod Creating
 pub mod Ready
 pub mod Idle

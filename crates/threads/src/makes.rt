@@ -3,11 +3,11 @@ ghost use Rattle.std.specs.Prelude.{◌≡◌, length};
 ghost use Rattle.machine.specs.Instructions.{create};
 ghost use Rattle.machine.specs.State.{new_cells, new_fp, new_stack};
 ghost use Rattle.machine.specs.Tables.{ready, saved, sent, tables_of};
-ghost use Rattle.cells.specs.Contract.{Able, ActsIn, CellOf};
+ghost use Rattle.cells.specs.Contract.{Able, ActsIn, CellOf, settled_of};
 ghost use Rattle.tables.specs.Good.{Good, Left};
 
 use cells::Opening;
-use machine::{Context, Registers, Thread, faults, sizes};
+use machine::{Context, Fault, Registers, Thread, sizes};
 
 // The stack of a new thread: its argument, and no frame to return to.
 fn new_stack(store: &mut [i32], size: usize, t: Thread, v: i32)
@@ -54,31 +54,30 @@ pub fn create(
     size: usize,
     r: Registers,
     n: usize,
-) -> Registers
+) -> Result<Registers, Fault>
     requires able { Able size r (length store.old) }
     requires good { Good size tables.old }
     ensures { ActsIn size n create store.old tables.old r
-        store.new tables.new result }
+        store.new tables.new (settled_of r result) }
 {
     let cells = r.cells;
     if cells < 2 {
-        return r.stop(faults::STACK_UNDERFLOW);
+        return Err(Fault::StackUnderflow);
     }
     let below = cells::peek(store, size, r.thread, cells - 2);
     let made = r.threads;
     match cells::opening_for(below, n, made, size) {
-        Opening::Wrong => r.stop(faults::BAD_TARGET),
+        Opening::Wrong => Err(Fault::BadTarget),
         Opening::Full => {
             cells::poke(store, size, r.thread, cells - 2, -1);
-            r.advance().with_cells(cells - 1)
+            Ok(r.advance().with_cells(cells - 1))
         }
         Opening::Room(entry) => {
             let top = cells::peek(store, size, r.thread, cells - 1);
             let t = make_thread(store, tables, size, made, entry, top);
             cells::poke(store, size, r.thread, cells - 2, t.0 as i32);
-            r.advance()
-                .with_cells(cells - 1)
-                .with_made(made + 1, r.mutexes, r.conditions)
+            let after = r.advance().with_cells(cells - 1);
+            Ok(after.with_made(made + 1, r.mutexes, r.conditions))
         }
     }
 }

@@ -9,7 +9,9 @@ use Rattle.cells.proofs.cells.poke.Goals as goal
 pub returns : goal.returns
 returns c =
     let args = c.args in
-    let pre = c.requires in
+    let store = args.store.now in
     let at = 128 * (args.size + args.t) in
+    let long = length store - at in
     rw (to_z-of_z c.ranges.v)
-    (set_mid_at at (length args.store.now - at) args.i args.store.now args.v (rw (mid_len at (length args.store.now) args.store.now (omega arith)) (omega (arith, pre.fits, pre.thread, pre.cell))))
+    (set_mid_at at long args.i store args.v
+    (rw (mid_len at (length store) store (omega arith)) (omega (arith, c.requires.fits, c.requires.thread))))

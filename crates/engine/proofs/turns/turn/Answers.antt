@@ -19,9 +19,10 @@ returns-in-27 c n values = rw c.in-27.is (c.yield_turn.ensures _ n values)
 
 pub returns-in-32 : goal.returns-in-32
 unfolding instruction_of
-returns-in-32 c n values = rw c.in-32.is (c.lock.ensures n values)
+returns-in-32 c n values = rw (c.in-32.is, c.settled.ensures) (c.lock.ensures n values)
 
 pub returns-in_default : goal.returns-in_default
 unfolding instruction_of
 returns-in_default c n values =
-    rw (last _ c.requires.turning (λ e. omega (arith, e)) (λ e. omega (arith, e))) (c.unlock.ensures n values)
+    let unlock = last _ c.requires.turning (λ e. omega (arith, e)) (λ e. omega (arith, e)) in
+    rw (unlock, c.settled-in_default.ensures) (c.unlock.ensures n values)

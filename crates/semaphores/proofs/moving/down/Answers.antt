@@ -1,17 +1,10 @@
 -- `semaphores::moving::down` meets its contract. Assumes nothing.
-use mathlib.Core.Path.{ap, ◌∙◌}
-use native.Mathlib.Omega.{arith}
-use Rattle.machine.proofs.Equations.{faults, down_is}
-use Rattle.cells.proofs.Names.{goes_on, passed, stops}
-use Rattle.semaphores.specs.Numbers.{semaphore_named}
-use Rattle.passing.proofs.Laws.{lands}
+use mathlib.Core.Path.{sym, ◌∙◌}
+use Rattle.machine.proofs.Equations.{carries, down_is}
+use Rattle.cells.proofs.Names.{goes_on}
 use Rattle.semaphores.proofs.moving.down.Goals as goal
 
-pub lower-requires : goal.lower-requires
-lower-requires c = let there = passed _ _ _ _ _ _ _ (c.a_semaphore.ensures ∙ ap semaphore_named c.in-Made.is) in record { good = c.requires.good; values_len = c.requires.values_len; k_lt_size = omega (arith, there.below, c.requires.made.semaphores); low = c.requires.by_index _ there.below; thread_lt_size = c.requires.able.thread; pc_bound = c.requires.able.pc; le_cells = there.enough }
-
-pub returns-in-Fault : goal.returns-in-Fault
-returns-in-Fault c n = rw c.stop.ensures (faults _ n _ _ _ (down_is _ n _ ∙ stops _ _ _ _ _ _ _ _ (c.a_semaphore.ensures ∙ ap semaphore_named c.in-Fault.is)))
-
-pub returns-in-Made : goal.returns-in-Made
-returns-in-Made c n = c.lower.ensures n c.args.store.now ∙ lands _ n _ _ _ (down_is _ n _ ∙ goes_on _ _ _ _ _ _ _ _ (c.a_semaphore.ensures ∙ ap semaphore_named c.in-Made.is))
+pub returns : goal.returns
+returns c n =
+    c.lower.ensures n c.args.store.now
+    ∙ carries _ n _ _ _ (down_is _ n _ ∙ goes_on _ _ _ _ _ _ _ _ (sym c.in_ok-k.ensures.found))

@@ -7,8 +7,8 @@ use lib.IntN.{ℤ, pos}
 use lib.ListN.{length-set, replicate, set}
 use lib.Seq.{sets}
 use Rattle.machine.specs.Size.{stack_at}
-use Rattle.machine.proofs.Equations.{alloc_is, carries, faults}
-use Rattle.cells.proofs.Tests.{rooms_full, rooms_met}
+use Rattle.machine.proofs.Equations.{alloc_is, carries}
+use Rattle.cells.proofs.Tests.{rooms_met}
 use Rattle.stack.proofs.stack_ops.alloc.Goals as goal
 
 -- the first of the stores that are left
@@ -20,9 +20,6 @@ one_less xs size t i end h =
     let next : 128 * (size + t) + (i + 1) ≡ suc (128 * (size + t) + i) = omega arith in
     rw (more, next)
 
-pub returns-then-end-gt-STACK : goal.returns-then-end-gt-STACK
-returns-then-end-gt-STACK c n tables values = rw c.stop.ensures (faults _ n _ _ 22 (alloc_is _ n _ _ ∙ rooms_full _ _ _ (omega arith)))
-
 pub loop-i-init : goal.loop-i-init
 loop-i-init c =
     let whole : c.args.r.cells + c.args.k - c.args.r.cells ≡ c.args.k = omega arith in
@@ -33,7 +30,9 @@ loop-i-preserved c = (
   omega arith,
   omega arith,
   rw (c.poke.ensures, length-set) c.loop-i.invariant.2,
-  rw c.poke.ensures (one_less c.loop-i.store c.args.size c.args.r.thread c.loop-i.i (c.args.r.cells + c.args.k) c.loop-i-test.true ∙ c.loop-i.invariant.3),
+  rw c.poke.ensures
+  (one_less c.loop-i.store c.args.size c.args.r.thread c.loop-i.i (c.args.r.cells + c.args.k) c.loop-i-test.true
+  ∙ c.loop-i.invariant.3),
 )
 
 pub returns : goal.returns

@@ -1,3 +1,0 @@
-pub mod Wide
-pub mod Divisions
-pub mod Tests

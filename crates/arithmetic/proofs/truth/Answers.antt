@@ -1,8 +1,0 @@
--- `arithmetic::truth` meets its contract. Assumes nothing.
-use Rattle.arithmetic.proofs.truth.Goals as goal
-
-pub returns-then-b : goal.returns-then-b
-returns-then-b c = rw c.if-b.true
-
-pub returns-else-b : goal.returns-else-b
-returns-else-b c = rw c.if-b.false
