@@ -1,45 +1,32 @@
 // A framed stream on standard input: one image, or text, after the other, each behind its length in 4 bytes,
 // big-endian.
 use std::io::Read;
+use stdio::Program;
 
-#[derive(Clone, Copy)]
-pub enum Frame {
-    // So many bytes: they stand at the start of the buffer.
-    Bytes { length: usize },
-    // The stream has ended, or can't be read.
-    End,
+// Reads so many bytes to the start of the buffer. None where it has no room for them, or the stream ends or can't be
+// read before.
+fn fill<'a>(
+    program: &Program<impl Print>,
+    input: &mut impl Read,
+    buffer: &'a mut [u8],
+    length: usize,
+) -> Option<&'a [u8]> {
+    let part = buffer.get_mut(..length)?;
+    let read = program.read(input, part).ok();
+    read.filter(|bytes| bytes.len() == length)
 }
 
-fn length_of(head: &[u8; 4]) -> usize {
-    instruction::word_at(head, 0) as usize
-}
-
-// Fills a part of the buffer. False where the stream ends or can't be read before.
-fn fill(input: &mut impl Read, errors: &impl Print, part: &mut [u8]) -> bool {
-    let got = stdio::read(input, errors, b"compared", part);
-    got.length == part.len()
-}
-
-fn damaged(errors: &impl Print) -> Frame {
-    stdio::complain(errors, b"compared: a frame is too long, or cut short\n");
-    Frame::End
-}
-
-fn body(input: &mut impl Read, errors: &impl Print, buffer: &mut [u8], length: usize) -> Frame {
-    if buffer.len() < length {
-        return damaged(errors);
-    }
-    if !fill(input, errors, &mut buffer[0..length]) {
-        return damaged(errors);
-    }
-    Frame::Bytes { length }
-}
-
-// Reads the next frame to the start of the buffer.
-pub fn next(input: &mut impl Read, errors: &impl Print, buffer: &mut [u8]) -> Frame {
+// Reads the next frame to the start of the buffer. None where the stream has ended, or can't be read.
+pub fn next<'a>(
+    program: &Program<impl Print>,
+    input: &mut impl Read,
+    buffer: &'a mut [u8],
+) -> Option<&'a [u8]> {
     let mut head = [0u8; 4];
-    if !fill(input, errors, &mut head) {
-        return Frame::End;
+    fill(program, input, &mut head, 4)?;
+    let frame = fill(program, input, buffer, u32::from_be_bytes(head) as usize);
+    if frame.is_none() {
+        program.complain("a frame is too long, or cut short");
     }
-    body(input, errors, buffer, length_of(&head))
+    frame
 }

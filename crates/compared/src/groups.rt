@@ -1,174 +1,82 @@
-// The groups of fields at the end of a state line. Each has its letter, and its fields go by rising number.
-ghost use Rattle.std.specs.Prelude.{◌<◌, ◌≤◌};
+// The groups of a state line: each field of a group stands only for what has something to show.
+use crate::layout;
+use crate::lent::Lent;
+use crate::queues::Queue;
+use std::fmt;
+use std::fmt::Formatter;
+use std::ops::Range;
 
-use crate::put::Buffer;
-use crate::queues::{any_at, entry, put_queue};
-use crate::{layout, put};
-
-// A space and the field's name, as ` m3`.
-fn put_name(out: &mut Buffer, at: usize, letter: u8, number: usize) -> usize {
-    let mut next = put::byte(out, at, b' ');
-    next = put::byte(out, next, letter);
-    put::decimal(out, next, number)
-}
-
-// ` m3:[1,2]`, if any thread is at the place.
-fn put_waiters(
-    out: &mut Buffer,
-    at: usize,
-    tables: &[usize],
-    letter: u8,
-    number: usize,
-    place: usize,
-) -> usize {
-    if !any_at(tables, place) {
-        return at;
+// ` m3:[1,2]`: the threads at each of the places of a kind, if there are any.
+fn put_waiting<W: fmt::Write>(
+    f: &mut Formatter<W>,
+    lent: &Lent,
+    letter: char,
+    places: Range<usize>,
+) -> fmt::Result {
+    let tables = &lent.tables;
+    for (number, place) in places.enumerate() {
+        if tables[..layout::THREADS].contains(&place) {
+            write!(f, " {letter}{number}:{}", Queue { tables, place })?;
+        }
     }
-    let mut next = put_name(out, at, letter, number);
-    next = put::byte(out, next, b':');
-    put_queue(out, next, tables, place)
+    Ok(())
 }
 
-// ` o3=1`, if the mutex is owned.
-fn put_owner(out: &mut Buffer, at: usize, tables: &[usize], m: usize) -> usize
-    requires { m < 64 }
-{
-    let owner = entry(tables, layout::OWNERS + m);
-    if owner == layout::FREE {
-        return at;
+// ` o3=1`: a mutex's owner.
+fn put_owners<W: fmt::Write>(f: &mut Formatter<W>, lent: &Lent) -> fmt::Result {
+    for (m, owner) in lent.tables[layout::OWNERS..layout::LINE].iter().enumerate() {
+        if *owner != layout::FREE {
+            write!(f, " o{m}={owner}")?;
+        }
     }
-    let mut next = put_name(out, at, b'o', m);
-    next = put::byte(out, next, b'=');
-    put::decimal(out, next, owner)
+    Ok(())
 }
 
-// ` k3=-1`: a semaphore's count.
-fn put_count(out: &mut Buffer, at: usize, values: &[i32], k: usize) -> usize
-    requires { k < 64 }
-{
-    let index = layout::COUNTS + k;
-    if values.len() <= index {
-        return at;
+// ` k3=-1`: the count of each semaphore that was made.
+fn put_counts<W: fmt::Write>(f: &mut Formatter<W>, lent: &Lent, semaphores: usize) -> fmt::Result {
+    let counts = &lent.values[layout::COUNTS..];
+    for (k, count) in counts.iter().take(semaphores).enumerate() {
+        write!(f, " k{k}={count}")?;
     }
-    let mut next = put_name(out, at, b'k', k);
-    next = put::byte(out, next, b'=');
-    put::signed(out, next, values[index])
+    Ok(())
 }
 
-// `=(5,3,2)`: a thread's saved PC, cells and FP.
-fn put_registers(out: &mut Buffer, at: usize, pc: usize, cells: usize, fp: usize) -> usize {
-    let mut next = put::bytes(out, at, b"=(");
-    next = put::decimal(out, next, pc);
-    next = put::byte(out, next, b',');
-    next = put::decimal(out, next, cells);
-    next = put::byte(out, next, b',');
-    next = put::decimal(out, next, fp);
-    put::byte(out, next, b')')
-}
-
-// ` s2=(5,3,2)`, if the thread is ready or waits.
-fn put_saved(out: &mut Buffer, at: usize, tables: &[usize], t: usize) -> usize
-    requires { t < 64 }
-{
-    if entry(tables, t) < layout::READY {
-        return at;
+// ` s2=(5,3,2)`: the saved PC, cells and FP of each thread that is ready or waits.
+fn put_saved<W: fmt::Write>(f: &mut Formatter<W>, lent: &Lent) -> fmt::Result {
+    let tables = &lent.tables;
+    for (t, place) in tables[..layout::THREADS].iter().enumerate() {
+        if layout::READY <= *place {
+            let pc = tables[layout::SAVED_PC + t];
+            let cells = tables[layout::SAVED_CELLS + t];
+            let fp = tables[layout::SAVED_FP + t];
+            write!(f, " s{t}=({pc},{cells},{fp})")?;
+        }
     }
-    let next = put_name(out, at, b's', t);
-    let pc = entry(tables, layout::SAVED_PC + t);
-    let cells = entry(tables, layout::SAVED_CELLS + t);
-    let fp = entry(tables, layout::SAVED_FP + t);
-    put_registers(out, next, pc, cells, fp)
+    Ok(())
 }
 
-// ` v1=7`, if the thread has ended.
-fn put_result(out: &mut Buffer, at: usize, tables: &[usize], values: &[i32], t: usize) -> usize {
-    if entry(tables, t) != layout::ENDED || values.len() <= t {
-        return at;
+// ` v1=7`: the result of each thread that has ended.
+fn put_results<W: fmt::Write>(f: &mut Formatter<W>, lent: &Lent) -> fmt::Result {
+    let places = &lent.tables[..layout::THREADS];
+    for (t, (place, value)) in places.iter().zip(&lent.values).enumerate() {
+        if *place == layout::ENDED {
+            write!(f, " v{t}={value}")?;
+        }
     }
-    let mut next = put_name(out, at, b'v', t);
-    next = put::byte(out, next, b'=');
-    put::signed(out, next, values[t])
+    Ok(())
 }
 
-// A group's field of a number, or nothing.
-fn put_field(
-    out: &mut Buffer,
-    at: usize,
-    tables: &[usize],
-    values: &[i32],
-    letter: u8,
-    number: usize,
-) -> usize
-    requires { number < 64 }
-{
-    match letter {
-        b'm' => put_waiters(out, at, tables, letter, number, layout::AT_MUTEX + number),
-        b'c' => put_waiters(
-            out,
-            at,
-            tables,
-            letter,
-            number,
-            layout::AT_CONDITION + number,
-        ),
-        b'e' => put_waiters(out, at, tables, letter, number, layout::AT_END + number),
-        b'p' => put_waiters(
-            out,
-            at,
-            tables,
-            letter,
-            number,
-            layout::AT_SEMAPHORE + number,
-        ),
-        b'o' => put_owner(out, at, tables, number),
-        b'k' => put_count(out, at, values, number),
-        b's' => put_saved(out, at, tables, number),
-        _ => put_result(out, at, tables, values, number),
-    }
-}
-
-fn put_group(
-    out: &mut Buffer,
-    at: usize,
-    tables: &[usize],
-    values: &[i32],
-    letter: u8,
-    count: usize,
-) -> usize
-    requires { count ≤ 64 }
-{
-    let mut next = at;
-    for number in 0..count {
-        next = put_field(out, next, tables, values, letter, number);
-    }
-    next
-}
-
-// How many semaphores were made: a box has no more than 32.
-fn made_of(semaphores: usize) -> usize
-    ensures { result ≤ 32 }
-{
-    if semaphores < layout::SEMAPHORES {
-        semaphores
-    } else {
-        layout::SEMAPHORES
-    }
-}
-
-pub fn put_groups(
-    out: &mut Buffer,
-    at: usize,
-    tables: &[usize],
-    values: &[i32],
+pub fn put_groups<W: fmt::Write>(
+    f: &mut Formatter<W>,
+    lent: &Lent,
     semaphores: usize,
-) -> usize {
-    let counts = made_of(semaphores);
-    let mut next = put_group(out, at, tables, values, b'm', layout::MUTEXES);
-    next = put_group(out, next, tables, values, b'c', layout::CONDITIONS);
-    next = put_group(out, next, tables, values, b'e', layout::THREADS);
-    next = put_group(out, next, tables, values, b'p', layout::SEMAPHORES);
-    next = put_group(out, next, tables, values, b'o', layout::MUTEXES);
-    next = put_group(out, next, tables, values, b'k', counts);
-    next = put_group(out, next, tables, values, b's', layout::THREADS);
-    put_group(out, next, tables, values, b'v', layout::THREADS)
+) -> fmt::Result {
+    put_waiting(f, lent, 'm', layout::AT_MUTEX..layout::AT_CONDITION)?;
+    put_waiting(f, lent, 'c', layout::AT_CONDITION..layout::AT_SEMAPHORE)?;
+    put_waiting(f, lent, 'e', layout::AT_END..layout::PLACES)?;
+    put_waiting(f, lent, 'p', layout::AT_SEMAPHORE..layout::AT_END)?;
+    put_owners(f, lent)?;
+    put_counts(f, lent, semaphores)?;
+    put_saved(f, lent)?;
+    put_results(f, lent)
 }

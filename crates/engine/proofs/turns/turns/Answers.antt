@@ -9,7 +9,8 @@ use Rattle.engine.proofs.turns.turns.Goals.{After-turn-after}
 -- the instruction was taken
 taken : (c : After-turn-after) →
     Taken c.args.size c.args.card.now.code.now c.loop-left.store c.loop-left.tables
-    (in_context c.args.r c.loop-left.thread c.loop-left.context) c.loop-left.left c.turn-after.new.tables c.turn-after.result
+    (in_context c.args.r c.loop-left.thread c.loop-left.context) c.loop-left.left
+    c.turn-after.new.tables c.turn-after.result
 taken c =
     record {
       below = c.in-Some.ensures.0;

@@ -1,17 +1,32 @@
--- `opcodes::rules` meets its contract. Assumes nothing.
+-- `opcodes::rules` meets its contract. The loop's invariant: the rules in front of k stand in their places. Assumes
+-- nothing.
 use Prim.Native.Nat.{◌<◌}
+use mathlib.Core.Path.{refl, ap}
 use native.Mathlib.Omega.{arith}
-use borrow.Author.Rules.{rules}
-use Rattle.opcodes.specs.Table.{entry_of}
-use Rattle.opcodes.proofs.Rows.{all_lines}
+use lib.ListN.{length}
+use Rattle.opcodes.specs.Page.{page}
+use Rattle.opcodes.specs.declared.table.Entry.{Entry}
+use Rattle.opcodes.proofs.Rows.{all_lines, one_more}
 use Rattle.opcodes.proofs.table.rules.Goals as goal
+
+pub loop-k-init : goal.loop-k-init
+unfolding page
+loop-k-init c = record { long = refl; rule = λ j other h. absurd (omega (arith, h)) }
+
+pub bounds-rules-k : goal.bounds-rules-k
+bounds-rules-k c = c.loop-k-test.true
+
+pub loop-k-smaller : goal.loop-k-smaller
+loop-k-smaller c = omega (arith, all_lines, c.loop-k-test.true)
+
+pub loop-k-preserved : goal.loop-k-preserved
+loop-k-preserved c =
+    let known : c.loop-k.k < length page = omega (arith, all_lines, c.loop-k-test.true) in
+    let looked = c.all-table.ensures.line _ _ known in
+    one_more _ _ _ c.loop-k.invariant known (ap (λ (e : Entry). e.rule) looked)
 
 pub returns : goal.returns
 returns c =
     record {
-      rule = λ opcode other h.
-          let within : opcode < 41 = omega (arith, all_lines, h) in
-          let called = (c.map.ensures.items.at opcode (entry_of 0) other within).2.met in
-          let line = c.all.ensures.line opcode (entry_of 0) h in
-          search rules;
+      rule = λ opcode other h. c.loop-k.invariant.rule opcode other (omega (arith, all_lines, h, c.loop-k-test.false));
     }

@@ -6,4 +6,5 @@ pub unpack-unpacked-requires : goal.unpack-unpacked-requires
 unpack-unpacked-requires c = quarter c.requires
 
 pub invariant_of-result : goal.invariant_of-result
-invariant_of-result c = record { carded = c.requires; unpacked = unpacked_all (quarter c.requires) c.unpack-unpacked.ensures }
+invariant_of-result c =
+    record { carded = c.requires; unpacked = unpacked_all (quarter c.requires) c.unpack-unpacked.ensures }
