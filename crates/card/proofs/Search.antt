@@ -33,7 +33,8 @@ module _ (last : ℤ) (ws : List ℕ) (i : ℕ) where
 
   module _ (there : i < length ws) (w : ℕ) (is : w ≡ get_or ws i 0) where
     -- the search from i looks at word i first
-    from : first_bad last i (drop i ws) ≡ or_else (scan_of (check_of last w) i) (first_bad last (suc i) (drop (suc i) ws))
+    from : first_bad last i (drop i ws)
+        ≡ or_else (scan_of (check_of last w) i) (first_bad last (suc i) (drop (suc i) ws))
     unfolding first_bad
     from = rw (drop-cons ws i 0 there, is)
 

@@ -57,7 +57,8 @@ pub struct Refusal {
 
 // Refuses what is wrong, for this reason at this place.
 pub fn refuse_if(wrong: bool, reason: Reason, place: usize) -> Result<(), Refusal>
-    ensures { MatchResult result (λ _. wrong ≡ false) (λ r. (wrong ≡ true) × (r ≡ record { reason = reason; place = place })) }
+    ensures { MatchResult result (λ _. wrong ≡ false)
+        (λ r. (wrong ≡ true) × (r ≡ record { reason = reason; place = place })) }
 {
     if wrong {
         return Err(Refusal { reason, place });

@@ -1,5 +1,4 @@
 pub mod Tried
 pub mod Tests
 pub mod Names
-pub mod Opened
 pub mod Fits

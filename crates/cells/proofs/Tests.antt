@@ -23,10 +23,6 @@ pub needs_met : (k cells : ℕ) (o : Outcome) → k ≤ cells → needs k cells 
 unfolding needs
 needs_met k cells o h = rw (le-ltb cells k h)
 
-pub rooms_full : (k cells : ℕ) (o : Outcome) → 128 < cells + k → rooms k cells o ≡ fault 22
-unfolding rooms
-rooms_full k cells o h = rw (lt-ltb 128 (cells + k) h)
-
 pub rooms_met : (k cells : ℕ) (o : Outcome) → cells + k ≤ 128 → rooms k cells o ≡ o
 unfolding rooms
 rooms_met k cells o h = rw (le-ltb 128 (cells + k) h)
@@ -77,10 +73,6 @@ read_back {x} f e = to_z-of_z (sfits_of {w = w32} {z = x} f) ∙ e
 pub of_cell : (limit : ℕ) {x z : ℤ} {r : Option ℕ} → mag x < 2 ^ 31 → x ≡ z →
     r ≡ index_of (to_z w32 (of_z w32 x)) limit → index_of z limit ≡ r
 of_cell limit f e h = sym (rw (read_back f e) at h)
-
-pub below_limit : (x : ℤ) (limit : ℕ) {r : Option ℕ} {a : ℕ} → mag x < 2 ^ 31 →
-    r ≡ index_of (to_z w32 (of_z w32 x)) limit → r ≡ Some a → a < limit
-below_limit x limit {a} f h k = in_below x limit a (of_cell limit {x = x} f refl h ∙ k)
 
 pub of_frame : (fp limit : ℕ) {k : ℤ} {r : Option ℕ} → SFits w32 k →
     r ≡ index_of (pos fp +ℤ to_z w32 (of_z w32 k)) limit → index_of (pos fp +ℤ k) limit ≡ r

@@ -12,7 +12,7 @@ use machine::{Context, Fault};
 use opcodes::opcode;
 
 // Tries the instruction in context `c`, with PC past it.
-#[tactic(auto, unfolding(machine::specs::Instructions::instruction_of))]
+
 pub fn attempt(
     store: &mut [i32],
     size: usize,

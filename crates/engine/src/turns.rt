@@ -71,13 +71,13 @@ pub fn turns(
     let mut skip = 0;
     // No `for`: a stretch takes many from what is left.
     while 0 < left {
-        let here = r.switch(Thread(thread), context.pc, context.cells, context.fp);
         let Some(i) = card.at(context.pc) else {
-            return Reached { at: here, left };
+            break;
         };
         if !is_turn(i.opcode) {
-            return Reached { at: here, left };
+            break;
         }
+        let here = r.switch(Thread(thread), context.pc, context.cells, context.fp);
         skip = tables::first_living(tables, size, skip);
         let after = turn(store, tables, size, here, i.opcode, skip);
         if after.state == states::FAULTED {

@@ -1,4 +1,4 @@
--- Laws of owners: unlocking in the code's order, and the test of an owner. Assumes nothing.
+-- Laws of owners: unlocking in the code's order. Assumes nothing.
 use Prim.Native.Nat.{ℕ}
 use mathlib.Core.Path.{◌≡◌}
 use mathlib.Core.Bool.{true, false}
@@ -24,12 +24,3 @@ module _ (size : ℕ) (before taken given after : Tables) (m : ℕ) where
 pub freed : (size : ℕ) (before taken after : Tables) (m : ℕ) → first before (at_mutex m) ≡ None → taken ≡ before →
     after ≡ owned taken m size → after ≡ unlocked size before m
 freed size before taken after m none stays got = rw (none, got, stays)
-
-module _ (size n : ℕ) (s : State) (m : ℕ) (o : Outcome) where
-  pub owns_it : eqb (owner_of s.tables m) s.regs.thread ≡ true → owns size n s m o ≡ o
-  unfolding owns
-  owns_it h = rw h
-
-  pub owns_not : eqb (owner_of s.tables m) s.regs.thread ≡ false → owns size n s m o ≡ fault 28
-  unfolding owns
-  owns_not h = rw h

@@ -10,7 +10,8 @@ use crate::threads::{lives, place as place_of};
 use machine::Thread;
 
 // Moves the one `t` from `from` on to the end of the slice. It walks back from the end, so that what stands before
-// `t` is not read, and needs no bound, since `t` is there: `from` is only in the contract.
+// `t` is not read, and needs no bound, since `t` is there: `from` is only in the contract. By hand, since each change
+// of turns goes through it: `rposition` with `rotate_left(1)`, tried, takes twice as long where two threads are there.
 fn to_end(tables: &mut [usize], from: usize, t: usize)
     requires from_in_bounds { from ≤ length tables.old }
     requires tables_value { count t (drop from tables.old) ≡ 1 }

@@ -5,6 +5,8 @@ ghost use Rattle.tables.specs.Places.{awaited_at};
 
 use machine::{Condition, Mutex, Semaphore, Thread};
 
+// Numbers and no enum: they stand in lent tables, where C may have put any number, which the test of a well-formed
+// state must see.
 pub const UNMADE: usize = 0;
 
 pub const ENDED: usize = 1;
@@ -22,6 +24,9 @@ const CONDITIONS: usize = 2;
 const SEMAPHORES: usize = 4;
 
 const ENDS: usize = 5;
+
+// A function for each kind and no method of `Awaited`: a caller names one kind, and has the bound on its number as a
+// plain fact, for which a method would ask by cases.
 
 // A box has 64 mutexes at most.
 pub fn at_mutex(m: Mutex) -> usize

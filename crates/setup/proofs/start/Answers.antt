@@ -1,5 +1,5 @@
 -- `setup::start` meets its contract. Assumes nothing.
-use Rattle.std.proofs.Common.{rules, refl}
+use Rattle.std.proofs.Common.{refl}
 use Rattle.machine.specs.State.{start}
 use Rattle.setup.proofs.start.Goals as goal
 

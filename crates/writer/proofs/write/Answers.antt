@@ -37,7 +37,8 @@ writes cells list before after size e b = record { answered = e; left = rw (← 
 -- number 3 is not given
 sizes_fine : (c : In_ok-refuse_if-2) →
     (out_of_range c.args.cells || out_of_range (length c.args.list.now)) ≡ false
-sizes_fine c = rw (← c.out_of_range.ensures, c.in_ok-refuse_if.ensures, ← c.out_of_range-2.ensures) c.in_ok-refuse_if-2.ensures
+sizes_fine c =
+    rw (← c.out_of_range.ensures, c.in_ok-refuse_if.ensures, ← c.out_of_range-2.ensures) c.in_ok-refuse_if-2.ensures
 
 -- what the search answered
 searched : (c : After-scan) →
@@ -78,13 +79,18 @@ returns-in_err-refuse_if-3 c =
     (rw (wrong.1, sizes_fine at.In_ok-refuse_if-2, ← (searched at.After-scan), c.in_ok-scan.was, wrong.0))
 
 pub overflow_cast-cells : goal.overflow_cast-cells
-overflow_cast-cells c = omega (arith, (in_range c.args.cells (sym c.out_of_range.ensures ∙ c.in_ok-refuse_if.ensures)).most)
+overflow_cast-cells c =
+    omega (arith, (in_range c.args.cells (sym c.out_of_range.ensures ∙ c.in_ok-refuse_if.ensures)).most)
 
 pub overflow_cast-n : goal.overflow_cast-n
-overflow_cast-n c = omega (arith, (in_range (length c.args.list.now) (sym c.out_of_range-2.ensures ∙ c.in_ok-refuse_if-2.ensures)).most)
+overflow_cast-n c =
+    let n = in_range (length c.args.list.now) (sym c.out_of_range-2.ensures ∙ c.in_ok-refuse_if-2.ensures) in
+    omega (arith, n.most)
 
 pub put_header-requires : goal.put_header-requires
-put_header-requires c = (omega (arith, ltb-false _ _ c.in_ok-refuse_if-3.ensures), (in_range _ (sym c.out_of_range-2.ensures ∙ c.in_ok-refuse_if-2.ensures)).most)
+put_header-requires c =
+    let n = in_range _ (sym c.out_of_range-2.ensures ∙ c.in_ok-refuse_if-2.ensures) in
+    (omega (arith, ltb-false _ _ c.in_ok-refuse_if-3.ensures), n.most)
 
 pub returns : goal.returns
 unfolding write_of

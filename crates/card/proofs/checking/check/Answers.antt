@@ -31,6 +31,8 @@ pub returns : goal.returns
 returns c =
     let known = leb-false _ _ c.in_ok-refuse_if.ensures in
     let within : c.opcode-opcode.result < length page = omega (arith, known, all_lines) in
-    let permitted = rw (to_z-of_z c.ranges.last, c.requires.rule _ _ within, c.opcode-opcode.ensures, c.bits.ensures) at c.permits-permitted.ensures in
+    let permitted =
+    rw (to_z-of_z c.ranges.last, c.requires.rule _ _ within, c.opcode-opcode.ensures, c.bits.ensures)
+    at c.permits-permitted.ensures in
     let at_most : opcode_of c.args.w ≤ last_opcode = omega (arith, known, c.opcode-opcode.ensures, all_lines) in
     found_if _ _ _ _ c.refuse_if-2.ensures ∙ by_operand c.args.last c.args.w c.args.index at_most _ permitted

@@ -22,8 +22,9 @@ pub returns-in_err-refuse_if-3 : goal.returns-in_err-refuse_if-3
 unfolding read_of
 returns-in_err-refuse_if-3 c =
     let wrong = c.in_err-refuse_if-3.ensures in
+    let version = c.in_ok-refuse_if-2.ensures in
     handed_on _ _ _ c.from_residual-in_err-refuse_if-3.ensures.1
-    ∙ rw (wrong.1, ← c.wrong_length.ensures, c.in_ok-refuse_if.ensures, c.in_ok-refuse_if-2.ensures, ← c.wrong_sizes.ensures, wrong.0)
+    ∙ rw (wrong.1, ← c.wrong_length.ensures, c.in_ok-refuse_if.ensures, version, ← c.wrong_sizes.ensures, wrong.0)
 
 pub bounds-image-4 : goal.bounds-image-4
 bounds-image-4 c =
@@ -43,4 +44,6 @@ read_code-requires c =
 pub returns : goal.returns
 unfolding read_of
 returns c =
-    rw (← c.wrong_length.ensures, c.in_ok-refuse_if.ensures, c.in_ok-refuse_if-2.ensures, ← c.wrong_sizes.ensures, c.in_ok-refuse_if-3.ensures) c.read_code.ensures
+    let sizes = c.in_ok-refuse_if-3.ensures in
+    rw (← c.wrong_length.ensures, c.in_ok-refuse_if.ensures, c.in_ok-refuse_if-2.ensures, ← c.wrong_sizes.ensures, sizes)
+    c.read_code.ensures

@@ -31,10 +31,12 @@ within c number index e =
     omega (arith, index_below _ _ 0 (sym (e ∙ of_image c)), n, h.most)
 
 pub overflow_mul-result : goal.overflow_mul-result
-overflow_mul-result c = omega (arith, within (goal.at.overflow_mul-result c).After-scan _ _ (ap found (sym c.in-Err.is)))
+overflow_mul-result c =
+    omega (arith, within (goal.at.overflow_mul-result c).After-scan _ _ (ap found (sym c.in-Err.is)))
 
 pub overflow_add-result : goal.overflow_add-result
-overflow_add-result c = omega (arith, within (goal.at.overflow_add-result c).After-scan _ _ (ap found (sym c.in-Err.is)))
+overflow_add-result c =
+    omega (arith, within (goal.at.overflow_add-result c).After-scan _ _ (ap found (sym c.in-Err.is)))
 
 pub returns-in-Err : goal.returns-in-Err
 unfolding read_code
@@ -42,4 +44,6 @@ returns-in-Err c = ap (placed _) (ap found (sym c.in-Err.is) ∙ of_image (goal.
 
 pub returns-in-Ok : goal.returns-in-Ok
 unfolding read_code
-returns-in-Ok c = ap gives c.half_at.ensures.0 ∙ ap (placed _) (ap found (sym c.in-Ok.is) ∙ of_image (goal.at.returns-in-Ok c).After-scan)
+returns-in-Ok c =
+    ap gives c.half_at.ensures.0
+    ∙ ap (placed _) (ap found (sym c.in-Ok.is) ∙ of_image (goal.at.returns-in-Ok c).After-scan)

@@ -4,7 +4,7 @@ use Rattle.engine.proofs.Among.{Taken, among, among_more, houses, joined, live, 
 use Rattle.machine.specs.Context.{in_context}
 use Rattle.tables.proofs.Idle.{idle_after}
 use Rattle.engine.proofs.turns.turns.Goals as goal
-use Rattle.engine.proofs.turns.turns.Goals.{After-turn-after}
+use Rattle.engine.proofs.turns.turns.Goals.{After-turn-after, else-loop-left-test, then-loop-left-test+in_default, then-loop-left-test+in-Some+then-not-is_turn}
 
 -- the instruction was taken
 taken : (c : After-turn-after) →
@@ -32,23 +32,6 @@ loop-left-init c =
     (record {
       values = seat.values;
       sound = (c.stretch-first.ensures _ seat.values c.args.r c.requires.runs seat.sound).sound;
-    })
-
-pub returns-in_default : goal.returns-in_default
-returns-in_default c =
-    rw c.switch-here.ensures
-    (record {
-      under = joined c.args.card.now.carded c.requires.runs c.stretch-first.ensures c.loop-left.invariant.under;
-      ends = λ some runs below. absurd (omega (arith, below, c.in_default.ensures));
-    })
-
-pub returns-then-not-is_turn : goal.returns-then-not-is_turn
-returns-then-not-is_turn c =
-    let sorted = rw c.in-Some.ensures.1 at c.is_turn.ensures in
-    rw c.switch-here.ensures
-    (record {
-      under = joined c.args.card.now.carded c.requires.runs c.stretch-first.ensures c.loop-left.invariant.under;
-      ends = λ some runs below. sorted.fails c.if-not-is_turn.true;
     })
 
 pub first_living-skip-requires : goal.first_living-skip-requires
@@ -111,5 +94,11 @@ returns c =
     rw c.switch.ensures
     (record {
       under = joined c.args.card.now.carded c.requires.runs c.stretch-first.ensures c.loop-left.invariant.under;
-      ends = λ some runs below. absurd (omega (arith, some, c.loop-left-test.false));
+      ends = λ some runs below.
+          elim c.loop-left-test.branch [
+            | else-loop-left-test w ↦ absurd (omega (arith, some, w.loop-left-test.false))
+            | then-loop-left-test+in_default w ↦ absurd (omega (arith, below, w.in_default.ensures))
+            | then-loop-left-test+in-Some+then-not-is_turn w ↦
+                (rw w.in-Some.ensures.1 at w.is_turn.ensures).fails w.if-not-is_turn.true
+          ];
     })

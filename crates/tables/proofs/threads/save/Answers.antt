@@ -1,16 +1,9 @@
 -- `tables::threads::save` meets its contract. Assumes nothing.
-use native.Mathlib.Omega.{arith}
 use lib.ListN.{length-set}
 use Rattle.machine.specs.Tables.{tables_of}
 use Rattle.machine.proofs.Queues.{saved_line}
 use Rattle.tables.proofs.Regions.{still_good, store_saved}
 use Rattle.tables.proofs.threads.save.Goals as goal
-
-pub bounds-tables-size-2 : goal.bounds-tables-size-2
-bounds-tables-size-2 c = simp length-set (omega arith)
-
-pub bounds-tables-size-3 : goal.bounds-tables-size-3
-bounds-tables-size-3 c = simp length-set (omega arith)
 
 pub returns : goal.returns
 returns c =

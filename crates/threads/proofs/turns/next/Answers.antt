@@ -18,9 +18,6 @@ returns-in_default c =
       good = d.left.good;
     }
 
-pub saved-pc-requires : goal.saved-pc-requires
-saved-pc-requires c = record { good = c.dequeue.ensures.left.good; t_lt_size = c.dequeue.ensures.real _ c.in-Some.is }
-
 pub returns : goal.returns
 returns c =
     let d = c.dequeue.ensures in

@@ -3,9 +3,6 @@ use mathlib.Core.Path.{◌∙◌}
 use Rattle.machine.proofs.Equations.{carries, yield_is}
 use Rattle.threads.proofs.turns.yield_turn.Goals as goal
 
-pub block-requires : goal.block-requires
-block-requires c = rw c.advance.ensures record { good = c.requires.good; thread_lt_size = c.requires.thread_lt_size; idle_after = c.requires.idle_after }
-
 pub returns : goal.returns
 returns c store n values =
     rw c.advance.ensures at (c.block.ensures.is store values) ∙ carries _ n _ _ _ (yield_is _ n _)
