@@ -5,6 +5,7 @@ ghost use Rattle.cells.specs.Openings.{opening_of};
 
 use crate::index::checked;
 
+// Three answers, each with an end of its own in the instruction: neither an Option nor a Result.
 #[derive(Clone, Copy)]
 pub enum Opening {
     // There is room, and the number is in range.

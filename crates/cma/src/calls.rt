@@ -8,6 +8,7 @@ ghost use Rattle.machine.specs.Size.{full};
 
 use card::{Reason, Refusal, layout, refuse_if};
 use engine::Card;
+use machine::sizes::INSTRUCTIONS;
 use machine::{Registers, sizes};
 use outcome::{Outcome, ended, refused};
 
@@ -56,7 +57,30 @@ fn proceed(
     ended(p.registers, p.count)
 }
 
-// One step of a machine in the box of 32 threads.
+// Judges a call on the box of 32 threads, and then runs its card for at most `m` steps, with room for so many words.
+fn call<const WORDS: usize>(
+    image: &[u8],
+    store: &mut [i32],
+    tables: &mut [usize],
+    values: &mut [i32],
+    r: Registers,
+    m: usize,
+) -> Outcome
+    requires { WORDS ≤ 4096 }
+    ensures { Gives (run_call full image.now m
+        (boxed store.old tables.old values.old r)) result
+        store.new tables.new values.new }
+{
+    match judge(image, store, tables, values, 32, r) {
+        Err(refusal) => refused(refusal, r),
+        Ok(()) => {
+            let mut words = [0; WORDS];
+            proceed(image, store, tables, values, &mut words, 32, r, m)
+        }
+    }
+}
+
+// One step of a machine in the box of 32 threads. To unpack the card would cost more than its one instruction.
 pub fn step(
     image: &[u8],
     store: &mut [i32],
@@ -68,14 +92,7 @@ pub fn step(
         (boxed store.old tables.old values.old r)) result
         store.new tables.new values.new }
 {
-    match judge(image, store, tables, values, 32, r) {
-        Err(refusal) => refused(refusal, r),
-        Ok(()) => {
-            // Unpacking the card would cost more than its one instruction.
-            let mut words = [0; 0];
-            proceed(image, store, tables, values, &mut words, 32, r, 1)
-        }
-    }
+    call::<0>(image, store, tables, values, r, 1)
 }
 
 // A run of `m` steps, which stops early when the machine does.
@@ -91,11 +108,5 @@ pub fn run(
         (boxed store.old tables.old values.old r)) result
         store.new tables.new values.new }
 {
-    match judge(image, store, tables, values, 32, r) {
-        Err(refusal) => refused(refusal, r),
-        Ok(()) => {
-            let mut words = [0; sizes::INSTRUCTIONS];
-            proceed(image, store, tables, values, &mut words, 32, r, m)
-        }
-    }
+    call::<INSTRUCTIONS>(image, store, tables, values, r, m)
 }

@@ -7,6 +7,7 @@ ghost use Rattle.tables.specs.Good.{Good};
 use cells::named;
 use machine::{Condition, Fault, Registers};
 
+// Two of one shape: one for both, with what it does to the tables as a closure over lent tables, would be longer.
 pub fn signal(
     store: &[i32],
     tables: &mut [usize],

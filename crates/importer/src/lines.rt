@@ -54,6 +54,7 @@ fn next_line(text: &[u8], at: usize, index: usize) -> Result<(u32, usize), Refus
 
 // Stores a word where there is room for it: a text with more instructions than a card can have is refused by their
 // count.
+// By an index: with `get_mut`, which was tried, two goals stay open.
 fn store(words: &mut [u32], index: usize, word: u32)
     ensures { words.new ≡ set words.old index word }
 {

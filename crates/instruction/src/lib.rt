@@ -55,7 +55,7 @@ pub fn bits(w: u32) -> u32
     w % 16777216
 }
 
-// 24 bits in two's complement.
+// 24 bits in two's complement: std converts whole numbers of bytes of a type, and there is none of 24 bits.
 fn signed(bits: u32) -> i32
     requires { bits < 16777216 }
     ensures { result ≡ signed24 bits }

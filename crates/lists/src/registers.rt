@@ -8,6 +8,7 @@ use machine::{Answer, Registers, states};
 // Beside the machine's four states: a call that was refused.
 const REFUSED: usize = 4;
 
+// Functions and no `From`: registers and arrays are types of other crates.
 pub fn take_registers(list: &[usize; 11]) -> Registers
     ensures { result ≡ registers_of list.now }
 {

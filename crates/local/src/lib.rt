@@ -11,7 +11,8 @@ ghost use Rattle.local.specs.Contract.{Natural, Permitted, Ventures};
 use machine::Context;
 use opcodes::opcode;
 
-// An operand that is a number of cells or a jump's target.
+// An operand that is a number of cells or a jump's target. It is not negative, so the cast is exact; a `try_from` would
+// have to be unwrapped.
 pub fn natural(k: i32) -> usize
     requires { Natural k }
     ensures { result ≡ nat_abs k }

@@ -24,7 +24,7 @@ pub struct Registers {
     // The running thread, or the number of threads of the box where none runs.
     pub thread: usize,
     pub conditions: usize,
-    // One of `states`.
+    // One of `states`, or any other number that was lent.
     pub state: usize,
     // The number of the fault, 0 where there is none.
     pub fault: usize,

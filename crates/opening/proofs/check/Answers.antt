@@ -37,5 +37,10 @@ unfolding set_up
 returns-in_err-refuse_if-3 c =
     let wrong = c.in_err-refuse_if-3.ensures in
     refuses_as _ _ _ _ _ c.from_residual-in_err-refuse_if-3.ensures.1
-    (rw (wrong.1, ← c.in_ok-cells.ensures, c.in_ok-refuse_if.ensures, not-false _ c.in_ok-refuse_if-2.ensures,
-    not-true _ wrong.0))
+    (rw (
+      wrong.1,
+      ← c.in_ok-cells.ensures,
+      c.in_ok-refuse_if.ensures,
+      not-false _ c.in_ok-refuse_if-2.ensures,
+      not-true _ wrong.0,
+    ))

@@ -15,5 +15,9 @@ word-w-requires c = omega (arith, c.requires, length_words c.args.code.now)
 pub returns : goal.returns
 returns c =
     let w : c.word-w.result ≡ word_at c.args.code.now (4 * c.args.at) = c.word-w.ensures ∙ (word _ _ c.requires).is in
-    rw (← w, ← c.opcode.ensures, ← c.operand.ensures,
-    to_z-of_z (sfits_of {w = w32} {z = c.operand.result} c.operand.type_inv))
+    rw (
+      ← w,
+      ← c.opcode.ensures,
+      ← c.operand.ensures,
+      to_z-of_z (sfits_of {w = w32} {z = c.operand.result} c.operand.type_inv),
+    )

@@ -31,8 +31,8 @@ loop-i-preserved c = (
   omega arith,
   rw (c.poke.ensures, length-set) c.loop-i.invariant.2,
   rw c.poke.ensures
-  (one_less c.loop-i.store c.args.size c.args.r.thread c.loop-i.i (c.args.r.cells + c.args.k) c.loop-i-test.true
-  ∙ c.loop-i.invariant.3),
+      (one_less c.loop-i.store c.args.size c.args.r.thread c.loop-i.i (c.args.r.cells + c.args.k) c.loop-i-test.true
+      ∙ c.loop-i.invariant.3),
 )
 
 pub returns : goal.returns

@@ -12,7 +12,7 @@ invariant-loop-i l =
     × (l.i ≤ l.end)
     × (length l.store ≡ length l.initial.store)
     × (sets l.store (stack_at l.size l.r.thread l.i) (replicate (l.end - l.i) (pos 0))
-      ≡ sets l.initial.store (stack_at l.size l.r.thread l.cells) (replicate l.k (pos 0)))
+    ≡ sets l.initial.store (stack_at l.size l.r.thread l.cells) (replicate l.k (pos 0)))
 
 abbrev pub decreases-loop-i : goal.decreases-loop-i
 decreases-loop-i l = l.end - l.i
