@@ -20,5 +20,5 @@ pub fn past(r: Registers) -> Context
 pub fn settled(r: Registers, after: Result<Registers, Fault>) -> Registers
     ensures { result ≡ settled_of r after }
 {
-    after.unwrap_or_else(|fault| r.stop(fault))
+    after.unwrap_or_else(|fault| r.stop(fault.number()))
 }

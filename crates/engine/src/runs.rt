@@ -31,7 +31,7 @@ fn carry(
         store.new tables.new values.new result }
 {
     let Some(i) = card.at(r.pc) else {
-        return r.stop(Fault::NoInstruction);
+        return r.stop(Fault::NoInstruction.number());
     };
     let n = card.count();
     dispatch::execute(store, tables, values, size, n, r, i.opcode, i.operand)

@@ -1,11 +1,9 @@
 // The registers. They go in by value and come back advanced.
 ghost use Rattle.std.specs.Prelude.{◌≡◌, ◌≤◌};
 ghost use Rattle.machine.specs.Context.{in_context};
-ghost use Rattle.machine.specs.Faults.{number_of};
 ghost use Rattle.machine.specs.Registers.{advanced, stopped, switched, with_cells, with_free, with_made, with_semaphores, with_state};
 
 use crate::context::Context;
-use crate::faults::Fault;
 use crate::numbers::Thread;
 use crate::states;
 
@@ -63,12 +61,12 @@ impl Registers {
         self
     }
 
-    // With a fault: everything else stays.
-    pub fn stop(mut self, fault: Fault) -> Self
-        ensures { result ≡ stopped self (number_of fault) }
+    // With a fault's number: everything else stays.
+    pub fn stop(mut self, number: usize) -> Self
+        ensures { result ≡ stopped self number }
     {
         self.state = states::FAULTED;
-        self.fault = fault.number();
+        self.fault = number;
         self
     }
 

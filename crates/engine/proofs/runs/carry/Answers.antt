@@ -3,7 +3,7 @@ use Rattle.engine.proofs.Working.{at_pc, past_end, permitted, read_operand, work
 use Rattle.engine.proofs.runs.carry.Goals as goal
 
 pub returns-in_default : goal.returns-in_default
-returns-in_default c = rw c.stop.ensures (past_end _ c.args.card.now.carded _ _ c.in_default.ensures)
+returns-in_default c = rw (c.stop.ensures, c.number.ensures) (past_end _ c.args.card.now.carded _ _ c.in_default.ensures)
 
 pub execute-requires : goal.execute-requires
 execute-requires c =
