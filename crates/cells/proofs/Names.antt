@@ -47,3 +47,46 @@ module _ (size : ℕ) (store : List ℤ) (r : Registers) (at limit : ℕ) (missi
   pub goes_on : (a : ℕ) (f : ℕ → Outcome) → number_at size store r at limit missing ≡ Ok a →
       needs at r.cells (within cell limit (number_of missing) f) ≡ f a
   goes_on a f e = let p = passed a e in needs_met at _ _ p.enough ∙ within_in cell limit _ f a p.index
+
+  -- .. and with a fault
+  pub stops : (k : Fault) (f : ℕ → Outcome) → number_at size store r at limit missing ≡ Err k →
+      needs at r.cells (within cell limit (number_of missing) f) ≡ fault (number_of k)
+  unfolding number_at
+  stops k f e = by_cells (ltb r.cells at) refl e
+    where
+      by_index : (i : Option ℕ) → index_of cell limit ≡ i → at ≤ r.cells → named i missing ≡ Err k →
+          needs at r.cells (within cell limit (number_of missing) f) ≡ fault (number_of k)
+      by_index (Some b) h m e = absurd cc
+      by_index None h m e =
+          let same : missing ≡ k = cc in
+          needs_met at _ _ m ∙ within_out cell limit _ f h ∙ ap (λ (x : Fault). fault (number_of x)) same
+
+      by_cells : (b : Bool) → ltb r.cells at ≡ b → cond b (Err StackUnderflow) (named (index_of cell limit) missing) ≡ Err k →
+          needs at r.cells (within cell limit (number_of missing) f) ≡ fault (number_of k)
+      by_cells true h e =
+          let same : StackUnderflow ≡ k = cc in
+          needs_less at _ _ (ltb-true r.cells at h) ∙ ap (λ (x : Fault). fault (number_of x)) same
+      by_cells false h e = by_index (index_of cell limit) refl (ltb-false r.cells at h) e
+
+-- an instruction with two numbers, top's looked at before the one below: what its tests come to, whatever it does then
+module _ (size : ℕ) (store : List ℤ) (r : Registers) (limit limit' : ℕ) (missing missing' : Fault) (f : ℕ → ℕ → Outcome) where
+  abbrev second : ℕ → Outcome
+  second a = within (cell size store r 2 limit' missing') limit' (number_of missing') (f a)
+
+  abbrev both : Outcome
+  both = needs 2 r.cells (within (cell size store r 1 limit missing) limit (number_of missing) second)
+
+  pub top_missing : (k : Fault) → 2 ≤ r.cells → number_at size store r 1 limit missing ≡ Err k → both ≡ fault (number_of k)
+  top_missing k h e = needs_met 2 _ _ h ∙ sym (needs_met 1 _ _ (omega (arith, h))) ∙ stops size store r 1 limit missing k second e
+
+  top_there : (a : ℕ) → 2 ≤ r.cells → number_at size store r 1 limit missing ≡ Ok a → both ≡ second a
+  top_there a h e = needs_met 2 _ _ h ∙ within_in _ _ _ _ _ (passed size store r 1 limit missing a e).index
+
+  pub below_missing : (a : ℕ) (k : Fault) → 2 ≤ r.cells → number_at size store r 1 limit missing ≡ Ok a →
+      number_at size store r 2 limit' missing' ≡ Err k → both ≡ fault (number_of k)
+  below_missing a k h e g = top_there a h e ∙ sym (needs_met 2 _ _ h) ∙ stops size store r 2 limit' missing' k (f a) g
+
+  pub both_there : (a b : ℕ) → number_at size store r 1 limit missing ≡ Ok a →
+      number_at size store r 2 limit' missing' ≡ Ok b → both ≡ f a b
+  both_there a b e g =
+      let there = passed size store r 2 limit' missing' b g in top_there a there.enough e ∙ within_in _ _ _ _ _ there.index

@@ -5,8 +5,8 @@ use mathlib.Core.List.{List, [], ◌∷◌}
 use mathlib.Core.Path.{◌≡◌, refl, ◌∙◌, ap}
 use native.Mathlib.Numerals.{add-one}
 use native.Mathlib.Omega.{arith}
-use borrow.Author.Tests.{eqb-true}
-use lib.Dec.{eqb}
+use borrow.Author.Tests.{eqb-true, leb-true}
+use lib.Dec.{eqb, leb}
 use lib.ListN.{get_or-eq_default, drop, drop_of_length-le, get_or, length, take}
 use lib.Seq.{drop-cons}
 use Rattle.opcodes.specs.Ascii.{bytes, same}
@@ -28,13 +28,16 @@ abbrev is_opcode : ℕ → Option ℕ → Bool
 is_opcode k (Some j) = eqb j k
 is_opcode k None = false
 
--- the tests of one line: its number is its place; its name is what the table has up to a space; it has no separator;
--- it names the opcode
+-- the tests of one line: its number is its place; its name is what the table has up to a space, in ten bytes; how
+-- long that is; it has no separator; it names the opcode
 abbrev is_numbered : ℕ → Line → Bool
 is_numbered k line = eqb line.number k
 
 abbrev is_entry : Line → Bool
-is_entry line = same (up_to 32 (padded line.name)) line.name
+is_entry line = same (up_to 32 (padded line.name)) line.name && eqb (length (padded line.name)) 10
+
+abbrev is_short : Line → Bool
+is_short line = leb (length line.name) 9
 
 abbrev is_word : Line → Bool
 is_word line = lacks 32 line.name && lacks 10 line.name
@@ -43,7 +46,7 @@ abbrev is_found : ℕ → Line → Bool
 is_found k line = is_opcode k (opcode_named line.name)
 
 abbrev is_right : ℕ → Line → Bool
-is_right k line = is_numbered k line && (is_entry line && (is_word line && is_found k line))
+is_right k line = is_numbered k line && (is_entry line && (is_short line && (is_word line && is_found k line)))
 
 all_right : each is_right 0 page ≡ true
 unfolding bytes lacks named_in page same up_to
@@ -60,6 +63,8 @@ opcode_is k None e = never e
 pub record Right (k : ℕ) : Type 0 where
   pub number : (line_of k).number ≡ k
   pub entry : up_to 32 (padded (name_of k)) ≡ name_of k
+  pub wide : length (padded (name_of k)) ≡ 10
+  pub short : length (name_of k) ≤ 9
   pub no_space : lacks 32 (name_of k) ≡ true
   pub no_feed : lacks 10 (name_of k) ≡ true
   pub found : opcode_named (name_of k) ≡ Some k
@@ -69,11 +74,15 @@ right k h =
     let line = line_of k in
     let all = and_true (is_numbered k line) _ (at_each is_right page blank all_right k h) in
     let named = and_true (is_entry line) _ all.1 in
-    let last = and_true (is_word line) _ named.1 in
+    let written = and_true (same (up_to 32 (padded (name_of k))) (name_of k)) _ named.0 in
+    let more = and_true (is_short line) _ named.1 in
+    let last = and_true (is_word line) _ more.1 in
     let word = and_true (lacks 32 (name_of k)) (lacks 10 (name_of k)) last.0 in
     record {
       number = eqb-true _ _ all.0;
-      entry = same_is _ _ named.0;
+      entry = same_is _ _ written.0;
+      wide = eqb-true _ _ written.1;
+      short = leb-true _ _ more.0;
       no_space = word.0;
       no_feed = word.1;
       found = opcode_is k (opcode_named (name_of k)) last.1;
