@@ -26,7 +26,7 @@ pub fn next<'a>(
     fill(program, input, &mut head, 4)?;
     let frame = fill(program, input, buffer, u32::from_be_bytes(head) as usize);
     if frame.is_none() {
-        program.complain("a frame is too long, or cut short");
+        program.complain(b"compared: a frame is too long, or cut short\n");
     }
     frame
 }

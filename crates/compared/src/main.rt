@@ -87,11 +87,11 @@ fn print_all(
 
 fn main(rt: HostRuntime) {
     let program = Program {
-        name: "compared",
+        name: b"compared",
         errors: rt.stderr(),
     };
     let Some(show) = asked(&rt) else {
-        let _ = println!(program.errors; "usage: compared lines|states|listings|imports");
+        program.complain(b"usage: compared lines|states|listings|imports\n");
         return;
     };
     program.report(print_all(&program, &mut rt.stdin(), &rt.stdout(), show));

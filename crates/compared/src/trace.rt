@@ -13,7 +13,7 @@ const STEPS: usize = 300;
 fn print_outcome(output: &impl Print, o: Outcome, lent: &Lent) -> Result<()> {
     let registers = o.registers;
     match o.answer {
-        Answer::Refused(refusal) => print::refusal(output, refusal),
+        Answer::Refused(refusal) => print::refusal(output, refusal.reason.number(), refusal.place),
         _ => println!(output; "{}", State { registers, lent }),
     }
 }

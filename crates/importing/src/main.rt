@@ -13,13 +13,13 @@ fn print(output: &impl Print, text: &[u8]) -> Result<()> {
     let mut image = [0u8; print::LONGEST_IMAGE];
     match importer::import(text, &mut image) {
         Ok(size) => output.write_all(print::start(&image, size)?),
-        Err(refusal) => print::refusal(output, refusal),
+        Err(refusal) => print::refusal(output, refusal.reason.number(), refusal.place),
     }
 }
 
 fn main(rt: HostRuntime) {
     let program = Program {
-        name: "importing",
+        name: b"importing",
         errors: rt.stderr(),
     };
     let mut input = [0u8; INPUT_LIMIT];
@@ -27,7 +27,7 @@ fn main(rt: HostRuntime) {
         return;
     };
     if text.len() == INPUT_LIMIT {
-        program.complain("the text has more than 262143 bytes");
+        program.complain(b"importing: the text has more than 262143 bytes\n");
         return;
     }
     program.report(print(&rt.stdout(), text));

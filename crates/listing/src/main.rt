@@ -9,7 +9,7 @@ const INPUT_LIMIT: usize = 16394;
 
 fn main(rt: HostRuntime) {
     let program = Program {
-        name: "listing",
+        name: b"listing",
         errors: rt.stderr(),
     };
     let mut input = [0u8; INPUT_LIMIT];

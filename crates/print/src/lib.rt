@@ -1,7 +1,6 @@
 // What the programs print on standard output. Inner. Each function answers why it can't be written, if so.
 #![tactic(auto)]
 
-use card::Refusal;
 use std::fmt;
 use std::fmt::{Display, Formatter};
 use std::io::{Error, ErrorKind, Result};
@@ -21,9 +20,9 @@ pub fn start(buffer: &[u8], length: usize) -> Result<&[u8]> {
 }
 
 // The line of a refusal.
-pub fn refusal(output: &impl Print, refusal: Refusal) -> Result<()> {
+pub fn refusal(output: &impl Print, number: usize, place: usize) -> Result<()> {
     let mut out = [0u8; line::ROOM];
-    let length = line::put_refused(&mut out, refusal.reason.number(), refusal.place);
+    let length = line::put_refused(&mut out, number, place);
     output.write_all(&out[..length])
 }
 
@@ -43,7 +42,7 @@ pub fn text(output: &impl Print, image: &[u8]) -> Result<()> {
         match lister::list_line(image, line, &mut out) {
             Ok(Some(length)) => output.write_all(start(&out, length)?)?,
             Ok(None) => return Ok(()),
-            Err(refused) => return refusal(output, refused),
+            Err(refused) => return refusal(output, refused.reason.number(), refused.place),
         }
     }
     Ok(())
@@ -67,6 +66,6 @@ pub fn imported(output: &impl Print, text: &[u8]) -> Result<()> {
     let mut image = [0u8; LONGEST_IMAGE];
     match importer::import(text, &mut image) {
         Ok(size) => println!(output; "{}", Hex(start(&image, size)?)),
-        Err(refused) => refusal(output, refused),
+        Err(refused) => refusal(output, refused.reason.number(), refused.place),
     }
 }

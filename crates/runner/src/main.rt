@@ -8,7 +8,7 @@ const INPUT_LIMIT: usize = 65536;
 
 fn main(rt: HostRuntime) {
     let program = Program {
-        name: "runner",
+        name: b"runner",
         errors: rt.stderr(),
     };
     let mut input = [0u8; INPUT_LIMIT];

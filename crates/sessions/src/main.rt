@@ -17,7 +17,7 @@ fn main(rt: HostRuntime) {
     images::refusals(&rt);
     calls::sessions(&rt);
     let program = Program {
-        name: "sessions",
+        name: b"sessions",
         errors: rt.stderr(),
     };
     let mut input = [0u8; INPUT_LIMIT];

@@ -45,24 +45,28 @@ fn reason(text: &str) -> &str {
     }
 }
 
-// A program: its name, and the standard error on which it says what it can't do.
+// A program: its name, in whatever bytes, and the standard error on which it says what it can't do.
 #[derive(Clone, Copy)]
-pub struct Program<E> {
-    pub name: &'static str,
+pub struct Program<'a, E> {
+    pub name: &'a [u8],
     pub errors: E,
 }
 
-impl<E: Print> Program<E> {
-    // Writes a line to standard error. Where that fails too, there is nobody to tell.
-    pub fn complain(&self, text: &str) {
-        let _ = println!(self.errors; "{}: {text}", self.name);
+impl<E: Print> Program<'_, E> {
+    // Writes a text as it is to standard error. Where that fails too, there is nobody to tell.
+    pub fn complain(&self, text: &[u8]) {
+        let _ = self.errors.write_all(text);
     }
 
     // Says what can't be done, and why.
-    fn say(&self, what: &str, error: Error) {
+    fn say(&self, what: &[u8], error: Error) {
         let mut text = ArrayString::<LONGEST_REASON>::new();
         let _ = write!(text, "{error}");
-        let _ = println!(self.errors; "{}: {what}: {}", self.name, reason(text.as_str()));
+        self.complain(self.name);
+        self.complain(what);
+        self.complain(b": ");
+        self.complain(reason(text.as_str()).as_bytes());
+        self.complain(b"\n");
     }
 
     // Hands back all of standard input, or as much of it as the buffer has room for. Where a read fails, it says so,
@@ -74,7 +78,7 @@ impl<E: Print> Program<E> {
         match fill(input, buf) {
             Ok(length) => Ok(&buf[..length]),
             Err(broken) => {
-                self.say("standard input can't be read", broken.error);
+                self.say(b": standard input can't be read", broken.error);
                 Err(&buf[..broken.length])
             }
         }
@@ -83,7 +87,7 @@ impl<E: Print> Program<E> {
     // Says so where the program's output was not written.
     pub fn report(&self, written: io::Result<()>) {
         if let Err(error) = written {
-            self.say("standard output can't be written", error);
+            self.say(b": standard output can't be written", error);
         }
     }
 }

@@ -50,7 +50,7 @@ fn print_line(rt: &impl Print, line: &[u8]) {
 
 fn main(rt: HostRuntime) {
     let program = Program {
-        name: "text_vectors",
+        name: b"text_vectors",
         errors: rt.stderr(),
     };
     let mut input = [0u8; INPUT_LIMIT];
