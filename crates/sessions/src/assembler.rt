@@ -1,11 +1,14 @@
 // Sessions as text. A line with a colon is a session: a label, the colon, and the card's instructions with commas
 // between them, as `P6: newmutex, dup, lock, lock`. `3*pop` stands for three, and `g 4096` among them for 4,096
 // global cells in place of one. Any other line is a remark. What stands before the instructions is printed as it is.
-use crate::naming::{is_named, number, word};
+use crate::naming::{Name, name_of, number, word};
 use crate::show::card_line;
 use arrayvec::ArrayVec;
 
 const MOST_WORDS: usize = 4096;
+
+// The number of global cells, and no instruction.
+const GLOBALS: Name = *b"g         ";
 
 // A session's card, as far as its text was read.
 #[derive(Drop)]
@@ -20,11 +23,12 @@ impl Card {
         let mut factors = text.rsplit(|b| *b == b'*');
         let operand = factors.next().map_or(0, number);
         let times = factors.next().map_or(1, number);
-        if is_named(text, b"g") {
+        let name = name_of(text);
+        if name == GLOBALS {
             self.cells = operand as usize;
             return;
         }
-        let word = word(text, operand);
+        let word = word(text, name, operand);
         for _ in 0..times {
             let _ = self.words.try_push(word);
         }
