@@ -36,7 +36,11 @@ pub fn write(cells: usize, list: &[u32], out: &mut [u8]) -> Result<usize, Refusa
     let n = list.len();
     refuse_if(card::out_of_range(cells), Reason::Sizes, layout::CELLS)?;
     refuse_if(card::out_of_range(n), Reason::Sizes, layout::CELLS)?;
-    card::scan(&list, card::last_of(n))?;
+    match card::scan(&list, card::last_of(n)) {
+        Ok(()) => {}
+        // The place is the index in the list.
+        Err(bad) => return Err(bad),
+    }
     let size = layout::CODE + 4 * n;
     refuse_if(out.len() < size, Reason::NoRoom, 0)?;
     put_header(out, cells as u32, n as u32);

@@ -2,7 +2,7 @@
 use Prim.Native.Nat.{ℕ}
 use mathlib.Core.Bool.{false, ◌||◌}
 use mathlib.Core.List.{List, ◌++◌}
-use mathlib.Core.Path.{◌≡◌, sym, ◌∙◌}
+use mathlib.Core.Path.{◌≡◌, refl, sym, ◌∙◌}
 use native.Mathlib.Omega.{arith}
 use borrow.Author.Rules.{sfits_of}
 use borrow.Author.Tests.{ltb-false}
@@ -63,12 +63,12 @@ returns-in_err-refuse_if-2 c =
 pub last_of-requires : goal.last_of-requires
 last_of-requires c = (in_range _ (sym c.out_of_range-2.ensures ∙ c.in_ok-refuse_if-2.ensures)).most
 
-pub returns-in_err-scan : goal.returns-in_err-scan
+pub returns-in-Err : goal.returns-in-Err
 unfolding write_of
-returns-in_err-scan c =
-    let at = goal.at.returns-in_err-scan c in
-    keeps _ _ _ _ _ c.from_residual-in_err-scan.ensures.1
-    (rw (sizes_fine at.In_ok-refuse_if-2, ← (searched at.After-scan), c.in_err-scan.was))
+returns-in-Err c =
+    let at = goal.at.returns-in-Err c in
+    keeps _ _ _ _ _ refl
+    (rw (sizes_fine at.In_ok-refuse_if-2, ← (searched at.After-scan), c.in-Err.is))
 
 pub returns-in_err-refuse_if-3 : goal.returns-in_err-refuse_if-3
 unfolding write_of
@@ -76,7 +76,7 @@ returns-in_err-refuse_if-3 c =
     let at = goal.at.returns-in_err-refuse_if-3 c in
     let wrong = c.in_err-refuse_if-3.ensures in
     keeps _ _ _ _ _ c.from_residual-in_err-refuse_if-3.ensures.1
-    (rw (wrong.1, sizes_fine at.In_ok-refuse_if-2, ← (searched at.After-scan), c.in_ok-scan.was, wrong.0))
+    (rw (wrong.1, sizes_fine at.In_ok-refuse_if-2, ← (searched at.After-scan), c.in-Ok.is, wrong.0))
 
 pub overflow_cast-cells : goal.overflow_cast-cells
 overflow_cast-cells c =
@@ -97,5 +97,5 @@ unfolding write_of
 returns c =
     let at = goal.at.returns c in
     writes _ _ _ _ _
-    (rw (sizes_fine at.In_ok-refuse_if-2, ← (searched at.After-scan), c.in_ok-scan.was, c.in_ok-refuse_if-3.ensures))
+    (rw (sizes_fine at.In_ok-refuse_if-2, ← (searched at.After-scan), c.in-Ok.is, c.in_ok-refuse_if-3.ensures))
     (c.put_code.ensures ∙ rw c.put_header.ensures (whole _ _ _ (ltb-false _ _ c.in_ok-refuse_if-3.ensures)))
