@@ -12,8 +12,8 @@ use machine::sizes::INSTRUCTIONS;
 use machine::{Registers, sizes};
 use outcome::{Outcome, ended, refused};
 
-// Tests the card, then the store's size, then the tables. Called from two places, as `proceed` is, and so the compiler
-// leaves each a function of its own: in one with the engine, the test of the tables takes longer.
+// Tests the card, then the store's size, then the tables. Both instances of `call` call it, as they do `proceed`, and so
+// the compiler leaves each a function of its own: in one with the engine, the test of the tables takes longer.
 fn judge(
     image: &[u8],
     store: &[i32],
